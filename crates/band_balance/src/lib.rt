@@ -1,0 +1,3 @@
+//! The definitions that every contract above cites: a line with its signed balance, the object that it stands in,
+//! and what each call makes of them. They stand in `specs/`; there is no code here but one law.
+#![tactic(auto)]
