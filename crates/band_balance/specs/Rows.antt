@@ -21,6 +21,6 @@ is name other = name == other
 
 -- a cancelled head lets the next through
 pub cancelled_head :
-  answers (ask 97 2 7 ∷ ask 98 1 8 ∷ drop (is 97) ∷ status ∷ poll (is 98) 9 ∷ []) (new_semaphore 1)
-  ≡ says Pending [] ∷ says Pending [] ∷ says Done (8 ∷ []) ∷ says (Figures 0 (pos 0) 0 1 0) [] ∷ says Ready [] ∷ []
+    answers (ask 97 2 7 ∷ ask 98 1 8 ∷ drop (is 97) ∷ status ∷ poll (is 98) 9 ∷ []) (new_semaphore 1)
+    ≡ says Pending [] ∷ says Pending [] ∷ says Done (8 ∷ []) ∷ says (Figures 0 (pos 0) 0 1 0) [] ∷ says Ready [] ∷ []
 cancelled_head = refl
