@@ -1,1 +1,3 @@
 pub mod Rename
+pub mod Settle
+pub mod Requests

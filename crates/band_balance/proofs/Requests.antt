@@ -1,0 +1,1 @@
+-- Who is in the line after each step.

@@ -1,0 +1,175 @@
+-- What a line settles to: a front of those that wait is granted, and the first that is left waits for more than is free.
+use Rattle.std.proofs.Common.{◌≡◌, ℕ, ◌+◌, fold, Bool, true, false, cond, List, [], ◌∷◌, ◌++◌, map, ℤ, pos, ◌+ℤ◌, ◌-ℤ◌, int_le, refl, ap, ap₂, sym, ◌∙◌, arith, append_assoc, append-nil}
+use Rattle.std.specs.Bool.{⊤}
+use Rattle.std.proofs.lemmas.Int.{ints}
+use Rattle.std.proofs.lemmas.Bool.{cond_both}
+use Rattle.std.proofs.lemmas.List.{map-append}
+use Rattle.std.proofs.lemmas.List.Sums.{sum_by-append, sum_by-cons}
+use Rattle.band_balance.specs.Line.{Entry, Waiting, Line, entry_of, requests, total, settle_from, settle, give_back, add_permits, cancel, withdraw}
+
+module _ {N : Type 0} where
+  -- those that are granted where so much is free, and those that go on waiting
+  abbrev pub passed : ℤ → List (Waiting N) → List (Waiting N)
+  passed free [] = []
+  passed free (first ∷ rest) = cond (int_le (pos first.size) free) (first ∷ passed (free -ℤ pos first.size) rest) []
+
+  abbrev pub left : ℤ → List (Waiting N) → List (Waiting N)
+  left free [] = []
+  left free (first ∷ rest) = cond (int_le (pos first.size) free) (left (free -ℤ pos first.size) rest) (first ∷ rest)
+
+  -- the wakers of those that wait
+  abbrev pub wakers : List (Waiting N) → List ℕ
+  wakers waiting = map (λ (w : Waiting N). w.waker) waiting
+
+  pub passed-left : (free : ℤ) (waiting : List (Waiting N)) → passed free waiting ++ left free waiting ≡ waiting
+  passed-left free [] = refl
+  passed-left free (first ∷ rest) = go (int_le (pos first.size) free) (passed-left (free -ℤ pos first.size) rest)
+    where
+      go : (b : Bool) → passed (free -ℤ pos first.size) rest ++ left (free -ℤ pos first.size) rest ≡ rest →
+          cond b (first ∷ passed (free -ℤ pos first.size) rest) [] ++ cond b (left (free -ℤ pos first.size) rest) (first ∷ rest) ≡ first ∷ rest
+      go true h = ap (λ (ws : List (Waiting N)). first ∷ ws) h
+      go false h = refl
+
+  pub total-append : (xs ys : List (Entry N)) → total (xs ++ ys) ≡ total xs + total ys
+  total-append xs ys = sum_by-append (λ (e : Entry N). e.size) xs ys
+
+  pub total-cons : (x : Entry N) (xs : List (Entry N)) → total (x ∷ xs) ≡ x.size + total xs
+  total-cons x xs = sum_by-cons (λ (e : Entry N). e.size) x xs
+
+  -- a line whose front is granted and whose rest waits
+  abbrev pub settled : ℤ → List (Waiting N) → List (Waiting N) → List (Entry N) → List ℕ → Line N
+  settled free front rest granted wakes = record {
+    free = free -ℤ pos (total (map entry_of front));
+    waiting = rest;
+    granted = granted ++ map entry_of front;
+    wakes = wakes ++ wakers front;
+  }
+
+  settled_none : (free : ℤ) (rest : List (Waiting N)) (granted : List (Entry N)) (wakes : List ℕ) →
+      record { free = free; waiting = rest; granted = granted; wakes = wakes } ≡ settled free [] rest granted wakes
+  settled_none free rest granted wakes = λ i. record { free = less_none free i; waiting = rest; granted = sym (append-nil granted) i; wakes = sym (append-nil wakes) i }
+    where
+      less_none : (z : ℤ) → z ≡ z -ℤ pos 0
+      less_none z = omega (arith, ints)
+
+  settled_more : (free : ℤ) (first : Waiting N) (front rest : List (Waiting N)) (granted : List (Entry N)) (wakes : List ℕ) →
+      settled (free -ℤ pos first.size) front rest (granted ++ entry_of first ∷ []) (wakes ++ first.waker ∷ []) ≡ settled free (first ∷ front) rest granted wakes
+  settled_more free first front rest granted wakes = λ i. record {
+    free = (less_both free first.size (total (map entry_of front)) (total (map entry_of (first ∷ front))) (total-cons (entry_of first) (map entry_of front))) i;
+    waiting = rest;
+    granted = append_assoc granted (entry_of first ∷ []) (map entry_of front) i;
+    wakes = append_assoc wakes (first.waker ∷ []) (wakers front) i;
+  }
+    where
+      less_both : (z : ℤ) (n m k : ℕ) → k ≡ n + m → z -ℤ pos n -ℤ pos m ≡ z -ℤ pos k
+      less_both z n m k e = omega (arith, ints)
+
+  -- what a line settles to, field by field
+  pub settle_from_is : (free : ℤ) (waiting : List (Waiting N)) (granted : List (Entry N)) (wakes : List ℕ) →
+      settle_from free waiting granted wakes ≡ settled free (passed free waiting) (left free waiting) granted wakes
+  settle_from_is free [] granted wakes = settled_none free [] granted wakes
+  settle_from_is free (first ∷ rest) granted wakes =
+      go (int_le (pos first.size) free) (settle_from_is (free -ℤ pos first.size) rest (granted ++ entry_of first ∷ []) (wakes ++ first.waker ∷ []))
+    where
+      go : (b : Bool) →
+          settle_from (free -ℤ pos first.size) rest (granted ++ entry_of first ∷ []) (wakes ++ first.waker ∷ [])
+          ≡ settled (free -ℤ pos first.size) (passed (free -ℤ pos first.size) rest) (left (free -ℤ pos first.size) rest) (granted ++ entry_of first ∷ []) (wakes ++ first.waker ∷ []) →
+          cond b (settle_from (free -ℤ pos first.size) rest (granted ++ entry_of first ∷ []) (wakes ++ first.waker ∷ [])) (record { free = free; waiting = first ∷ rest; granted = granted; wakes = wakes })
+          ≡ settled free (cond b (first ∷ passed (free -ℤ pos first.size) rest) []) (cond b (left (free -ℤ pos first.size) rest) (first ∷ rest)) granted wakes
+      go true h = h ∙ settled_more free first (passed (free -ℤ pos first.size) rest) (left (free -ℤ pos first.size) rest) granted wakes
+      go false h = settled_none free (first ∷ rest) granted wakes
+
+  pub settle_is : (line : Line N) → settle line ≡ settled line.free (passed line.free line.waiting) (left line.free line.waiting) line.granted line.wakes
+  settle_is line = settle_from_is line.free line.waiting line.granted line.wakes
+
+  -- the granted ones keep their order, and a front of those that waited follows them
+  pub granted-settle : (line : Line N) → (settle line).granted ≡ line.granted ++ map entry_of (passed line.free line.waiting)
+  granted-settle line = ap (λ (l : Line N). l.granted) (settle_is line)
+
+  pub waiting-settle : (line : Line N) → (settle line).waiting ≡ left line.free line.waiting
+  waiting-settle line = ap (λ (l : Line N). l.waiting) (settle_is line)
+
+  pub wakes-settle : (line : Line N) → (settle line).wakes ≡ line.wakes ++ wakers (passed line.free line.waiting)
+  wakes-settle line = ap (λ (l : Line N). l.wakes) (settle_is line)
+
+  pub free-settle : (line : Line N) → (settle line).free ≡ line.free -ℤ pos (total (map entry_of (passed line.free line.waiting)))
+  free-settle line = ap (λ (l : Line N). l.free) (settle_is line)
+
+  -- the wakers that were there before stay in front, and change nothing else
+  abbrev pub after_wakes : List ℕ → Line N → Line N
+  after_wakes wakes line = record line { wakes = wakes ++ line.wakes }
+
+  pub settle_from-append_wakes : (free : ℤ) (waiting : List (Waiting N)) (granted : List (Entry N)) (wakes more : List ℕ) →
+      settle_from free waiting granted (wakes ++ more) ≡ after_wakes wakes (settle_from free waiting granted more)
+  settle_from-append_wakes free [] granted wakes more = refl
+  settle_from-append_wakes free (first ∷ rest) granted wakes more = go (int_le (pos first.size) free) (settle_from-append_wakes (free -ℤ pos first.size) rest (granted ++ entry_of first ∷ []) wakes (more ++ first.waker ∷ []))
+    where
+      go : (b : Bool) →
+          settle_from (free -ℤ pos first.size) rest (granted ++ entry_of first ∷ []) (wakes ++ (more ++ first.waker ∷ []))
+          ≡ after_wakes wakes (settle_from (free -ℤ pos first.size) rest (granted ++ entry_of first ∷ []) (more ++ first.waker ∷ [])) →
+          cond b (settle_from (free -ℤ pos first.size) rest (granted ++ entry_of first ∷ []) ((wakes ++ more) ++ first.waker ∷ []))
+          (record { free = free; waiting = first ∷ rest; granted = granted; wakes = wakes ++ more })
+          ≡ after_wakes wakes (cond b (settle_from (free -ℤ pos first.size) rest (granted ++ entry_of first ∷ []) (more ++ first.waker ∷ []))
+          (record { free = free; waiting = first ∷ rest; granted = granted; wakes = more }))
+      go true h = ap (λ ws. settle_from (free -ℤ pos first.size) rest (granted ++ entry_of first ∷ []) ws) (append_assoc wakes more (first.waker ∷ [])) ∙ h
+      go false h = refl
+
+  pub settle_from-wakes : (free : ℤ) (waiting : List (Waiting N)) (granted : List (Entry N)) (wakes : List ℕ) →
+      settle_from free waiting granted wakes ≡ after_wakes wakes (settle_from free waiting granted [])
+  settle_from-wakes free waiting granted wakes =
+      ap (λ ws. settle_from free waiting granted ws) (sym (append-nil wakes)) ∙ settle_from-append_wakes free waiting granted wakes []
+
+  -- who is in the line stays the same, in order
+  pub requests-settle_from : (free : ℤ) (waiting : List (Waiting N)) (granted : List (Entry N)) (wakes : List ℕ) →
+      requests (settle_from free waiting granted wakes) ≡ granted ++ map entry_of waiting
+  requests-settle_from free [] granted wakes = refl
+  requests-settle_from free (first ∷ rest) granted wakes =
+      cond_both (int_le (pos first.size) free) _ _ (λ (line : Line N). requests line ≡ granted ++ (entry_of first ∷ map entry_of rest))
+      (λ e. requests-settle_from (free -ℤ pos first.size) rest (granted ++ entry_of first ∷ []) (wakes ++ first.waker ∷ []) ∙ append_assoc granted (entry_of first ∷ []) (map entry_of rest))
+      (λ e. refl)
+
+  pub requests-settle : (line : Line N) → requests (settle line) ≡ requests line
+  requests-settle line = requests-settle_from line.free line.waiting line.granted line.wakes
+
+  -- what is free and what is granted keep their sum
+  pub free-total-settle_from : (free : ℤ) (waiting : List (Waiting N)) (granted : List (Entry N)) (wakes : List ℕ) →
+      (settle_from free waiting granted wakes).free +ℤ pos (total (settle_from free waiting granted wakes).granted) ≡ free +ℤ pos (total granted)
+  free-total-settle_from free [] granted wakes = refl
+  free-total-settle_from free (first ∷ rest) granted wakes =
+      cond_both (int_le (pos first.size) free) _ _ (λ (line : Line N). line.free +ℤ pos (total line.granted) ≡ free +ℤ pos (total granted))
+      (λ e. free-total-settle_from (free -ℤ pos first.size) rest (granted ++ entry_of first ∷ []) (wakes ++ first.waker ∷ [])
+      ∙ rw (total-append granted (entry_of first ∷ [])) (cancels free first.size (total granted)))
+      (λ e. refl)
+    where
+      cancels : (z : ℤ) (n m : ℕ) → (z -ℤ pos n) +ℤ pos (m + (0 + n)) ≡ z +ℤ pos m
+      cancels z n m = omega (arith, ints)
+
+  pub free-total-settle : (line : Line N) → (settle line).free +ℤ pos (total (settle line).granted) ≡ line.free +ℤ pos (total line.granted)
+  free-total-settle line = free-total-settle_from line.free line.waiting line.granted line.wakes
+
+  -- the first of those that wait asks for more than is free
+  abbrev pub HeadWaits : ℤ → List (Waiting N) → Type 0
+  HeadWaits free [] = ⊤
+  HeadWaits free (first ∷ rest) = int_le (pos first.size) free ≡ false
+
+  pub HeadWaits-settle_from : (free : ℤ) (waiting : List (Waiting N)) (granted : List (Entry N)) (wakes : List ℕ) →
+      HeadWaits (settle_from free waiting granted wakes).free (settle_from free waiting granted wakes).waiting
+  HeadWaits-settle_from free [] granted wakes = tt
+  HeadWaits-settle_from free (first ∷ rest) granted wakes =
+      cond_both (int_le (pos first.size) free) _ _ (λ (line : Line N). HeadWaits line.free line.waiting)
+      (λ e. HeadWaits-settle_from (free -ℤ pos first.size) rest (granted ++ entry_of first ∷ []) (wakes ++ first.waker ∷ []))
+      (λ e. e)
+
+  pub HeadWaits-settle : (line : Line N) → HeadWaits (settle line).free (settle line).waiting
+  HeadWaits-settle line = HeadWaits-settle_from line.free line.waiting line.granted line.wakes
+
+  -- a line whose head waits has settled
+  pub settle_settled : (line : Line N) → HeadWaits line.free line.waiting → settle line ≡ line
+  settle_settled line h = go line.waiting h
+    where
+      go : (waiting : List (Waiting N)) → HeadWaits line.free waiting → settle_from line.free waiting line.granted line.wakes ≡ record { free = line.free; waiting = waiting; granted = line.granted; wakes = line.wakes }
+      go [] k = refl
+      go (first ∷ rest) k = rw k refl
+
+  pub settle-settle : (line : Line N) → settle (settle line) ≡ settle line
+  settle-settle line = settle_settled (settle line) (HeadWaits-settle line)
