@@ -1,1 +1,225 @@
--- Who is in the line after each step.
+-- Who is in the line after each step, and who is found there.
+use Rattle.std.proofs.Common.{◌≡◌, ℕ, ◌+◌, ◌-◌, ◌≤◌, Bool, true, false, cond, List, [], ◌∷◌, ◌++◌, map, ℤ, pos, Option, Some, None, count_by, find, refl, ap, ap₂, sym, ◌∙◌, arith, append_assoc, zero-add}
+use Rattle.std.specs.List.{AllByRecursion}
+use Rattle.std.specs.Option.{option_or}
+use Rattle.std.proofs.lemmas.List.{map-append}
+use Rattle.std.proofs.lemmas.List.Folds.{find-append}
+use Rattle.std.proofs.lemmas.List.Sums.{sum_by-append, sum_by-cons}
+use Rattle.std.proofs.lemmas.Bool.{cond_both, true≢false, cases_Bool}
+use Rattle.band_balance.specs.Line.{Entry, Waiting, Line, entry_of, requests, settle, take_permits, add_permits, give_back, join, entry_named, without, without_waiting, leave_waker, poll_granted, poll_waiting, withdraw, cancel}
+use Rattle.band_balance.proofs.Rename.{all_of_first}
+use Rattle.band_balance.proofs.Settle.{requests-settle}
+
+module _ {N : Type 0} where
+  -- how many entries are meant
+  abbrev pub count_named : (N → Bool) → List (Entry N) → ℕ
+  count_named is entries = count_by (λ (e : Entry N). is e.name) entries
+
+  pub requests-take_permits : (n : ℕ) (line : Line N) → requests (take_permits n line) ≡ requests line
+  requests-take_permits n line = refl
+
+  pub requests-add_permits : (n : ℕ) (line : Line N) → requests (add_permits n line) ≡ requests line
+  requests-add_permits n line = refl
+
+  pub requests-give_back : (n : ℕ) (line : Line N) → requests (give_back n line) ≡ requests line
+  requests-give_back n line = requests-settle (add_permits n line)
+
+  pub requests-join : (name : N) (size waker : ℕ) (line : Line N) → requests (join name size waker line) ≡ requests line ++ record { name = name; size = size } ∷ []
+  requests-join name size waker line =
+      ap (λ (es : List (Entry N)). line.granted ++ es) (map-append entry_of line.waiting (record { name = name; size = size; waker = waker } ∷ []))
+      ∙ sym (append_assoc line.granted (map entry_of line.waiting) (record { name = name; size = size } ∷ []))
+
+  pub entries-leave_waker : (is : N → Bool) (waker : ℕ) (waiting : List (Waiting N)) → map entry_of (leave_waker is waker waiting) ≡ map entry_of waiting
+  entries-leave_waker is waker [] = refl
+  entries-leave_waker is waker (w ∷ ws) =
+      cond_both (is w.name) _ _ (λ (left : List (Waiting N)). map entry_of left ≡ entry_of w ∷ map entry_of ws)
+      (λ e. refl)
+      (λ e. ap (λ (es : List (Entry N)). entry_of w ∷ es) (entries-leave_waker is waker ws))
+
+  pub requests-poll_waiting : (is : N → Bool) (waker : ℕ) (line : Line N) → requests (poll_waiting is waker line) ≡ requests line
+  requests-poll_waiting is waker line = ap (λ (es : List (Entry N)). line.granted ++ es) (entries-leave_waker is waker line.waiting)
+
+  pub entries-without_waiting : (is : N → Bool) (waiting : List (Waiting N)) → map entry_of (without_waiting is waiting) ≡ without is (map entry_of waiting)
+  entries-without_waiting is [] = refl
+  entries-without_waiting is (w ∷ ws) = go (is w.name) (entries-without_waiting is ws)
+    where
+      go : (b : Bool) → map entry_of (without_waiting is ws) ≡ without is (map entry_of ws) →
+          map entry_of (cond b ws (w ∷ without_waiting is ws)) ≡ cond b (map entry_of ws) (entry_of w ∷ without is (map entry_of ws))
+      go true h = refl
+      go false h = ap (λ (es : List (Entry N)). entry_of w ∷ es) h
+
+  -- the first that is meant goes from the first list if it stands there, and else from the second
+  pub without-append_found : (is : N → Bool) (xs ys : List (Entry N)) (found : Entry N) → entry_named is xs ≡ Some found → without is (xs ++ ys) ≡ without is xs ++ ys
+  without-append_found is [] ys found h = cc
+  without-append_found is (x ∷ xs) ys found h = go (is x.name) h (without-append_found is xs ys found)
+    where
+      go : (b : Bool) → cond b (Some x) (entry_named is xs) ≡ Some found → (entry_named is xs ≡ Some found → without is (xs ++ ys) ≡ without is xs ++ ys) →
+          cond b (xs ++ ys) (x ∷ without is (xs ++ ys)) ≡ cond b xs (x ∷ without is xs) ++ ys
+      go true h k = refl
+      go false h k = ap (λ (es : List (Entry N)). x ∷ es) (k h)
+
+  pub without-append_none : (is : N → Bool) (xs ys : List (Entry N)) → entry_named is xs ≡ None → without is (xs ++ ys) ≡ xs ++ without is ys
+  without-append_none is [] ys h = refl
+  without-append_none is (x ∷ xs) ys h = go (is x.name) h (without-append_none is xs ys)
+    where
+      go : (b : Bool) → cond b (Some x) (entry_named is xs) ≡ None → (entry_named is xs ≡ None → without is (xs ++ ys) ≡ xs ++ without is ys) →
+          cond b (xs ++ ys) (x ∷ without is (xs ++ ys)) ≡ x ∷ (xs ++ without is ys)
+      go true h k = cc
+      go false h k = ap (λ (es : List (Entry N)). x ∷ es) (k h)
+
+  pub requests-poll_granted : (is : N → Bool) (line : Line N) (found : Entry N) → entry_named is line.granted ≡ Some found → requests (poll_granted is line) ≡ without is (requests line)
+  requests-poll_granted is line found h = sym (without-append_found is line.granted (map entry_of line.waiting) found h)
+
+  -- a cancelled request leaves, and the rest stay in order
+  pub requests-cancel : (is : N → Bool) (line : Line N) → requests (cancel is line) ≡ without is (requests line)
+  requests-cancel is line = requests-settle (withdraw (entry_named is line.granted) is line) ∙ go (entry_named is line.granted) refl
+    where
+      go : (found : Option (Entry N)) → entry_named is line.granted ≡ found → requests (withdraw found is line) ≡ without is (requests line)
+      go (Some entry) h = requests-poll_granted is line entry h
+      go None h = ap (λ (es : List (Entry N)). line.granted ++ es) (entries-without_waiting is line.waiting) ∙ sym (without-append_none is line.granted (map entry_of line.waiting) h)
+
+  -- who is found, where another leaves
+  pub entry_named-without_other : (is other : N → Bool) (entries : List (Entry N)) → AllByRecursion (λ e. other e.name ≡ true → is e.name ≡ false) entries →
+      entry_named other (without is entries) ≡ entry_named other entries
+  entry_named-without_other is other [] apart = refl
+  entry_named-without_other is other (x ∷ xs) apart = go (is x.name) apart.0 (entry_named-without_other is other xs apart.1)
+    where
+      misses : (c : Bool) → (c ≡ true → true ≡ false) → entry_named other xs ≡ cond c (Some x) (entry_named other xs)
+      misses true p = absurd (true≢false (p refl))
+      misses false p = refl
+
+      go : (b : Bool) → (other x.name ≡ true → b ≡ false) → entry_named other (without is xs) ≡ entry_named other xs →
+          entry_named other (cond b xs (x ∷ without is xs)) ≡ cond (other x.name) (Some x) (entry_named other xs)
+      go true p h = misses (other x.name) p
+      go false p h = ap (λ (found : Option (Entry N)). cond (other x.name) (Some x) found) h
+
+  pub entry_named-cancel_other : (is other : N → Bool) (line : Line N) → AllByRecursion (λ e. other e.name ≡ true → is e.name ≡ false) (requests line) →
+      entry_named other (requests (cancel is line)) ≡ entry_named other (requests line)
+  entry_named-cancel_other is other line apart = ap (λ (es : List (Entry N)). entry_named other es) (requests-cancel is line) ∙ entry_named-without_other is other (requests line) apart
+
+  -- the same, where a granted request is polled; it need not stand there
+  pub entry_named-poll_granted_other : (is other : N → Bool) (line : Line N) → AllByRecursion (λ e. other e.name ≡ true → is e.name ≡ false) (requests line) →
+      entry_named other (requests (poll_granted is line)) ≡ entry_named other (requests line)
+  entry_named-poll_granted_other is other line apart =
+      find-append (λ (e : Entry N). other e.name) (without is line.granted) (map entry_of line.waiting)
+      ∙ ap (λ (found : Option (Entry N)). option_or found (entry_named other (map entry_of line.waiting)))
+      (entry_named-without_other is other line.granted (all_of_first (λ e. other e.name ≡ true → is e.name ≡ false) line.granted (map entry_of line.waiting) apart))
+      ∙ sym (find-append (λ (e : Entry N). other e.name) line.granted (map entry_of line.waiting))
+
+  pub entry_named-poll_waiting : (is other : N → Bool) (waker : ℕ) (line : Line N) → entry_named other (requests (poll_waiting is waker line)) ≡ entry_named other (requests line)
+  entry_named-poll_waiting is other waker line = ap (λ (es : List (Entry N)). entry_named other es) (requests-poll_waiting is waker line)
+
+  pub entry_named-settle : (other : N → Bool) (line : Line N) → entry_named other (requests (settle line)) ≡ entry_named other (requests line)
+  entry_named-settle other line = ap (λ (es : List (Entry N)). entry_named other es) (requests-settle line)
+
+  pub entry_named-give_back : (other : N → Bool) (n : ℕ) (line : Line N) → entry_named other (requests (give_back n line)) ≡ entry_named other (requests line)
+  entry_named-give_back other n line = entry_named-settle other (add_permits n line)
+
+  pub entry_named-append : (other : N → Bool) (xs ys : List (Entry N)) → entry_named other (xs ++ ys) ≡ option_or (entry_named other xs) (entry_named other ys)
+  entry_named-append other xs ys = find-append (λ (e : Entry N). other e.name) xs ys
+
+  option_or_none : (found : Option (Entry N)) → option_or found None ≡ found
+  option_or_none None = refl
+  option_or_none (Some e) = refl
+
+  pub entry_named-join_other : (other : N → Bool) (name : N) (size waker : ℕ) (line : Line N) → other name ≡ false →
+      entry_named other (requests (join name size waker line)) ≡ entry_named other (requests line)
+  entry_named-join_other other name size waker line h =
+      ap (λ (es : List (Entry N)). entry_named other es) (requests-join name size waker line)
+      ∙ entry_named-append other (requests line) (record { name = name; size = size } ∷ [])
+      ∙ ap (λ (b : Bool). option_or (entry_named other (requests line)) (cond b (Some (record { name = name; size = size })) None)) h
+      ∙ option_or_none (entry_named other (requests line))
+
+  pub entry_named-join_itself : (is : N → Bool) (name : N) (size waker : ℕ) (line : Line N) → is name ≡ true → entry_named is (requests line) ≡ None →
+      entry_named is (requests (join name size waker line)) ≡ Some (record { name = name; size = size })
+  entry_named-join_itself is name size waker line h k =
+      ap (λ (es : List (Entry N)). entry_named is es) (requests-join name size waker line)
+      ∙ entry_named-append is (requests line) (record { name = name; size = size } ∷ [])
+      ∙ ap₂ (λ (found : Option (Entry N)) (b : Bool). option_or found (cond b (Some (record { name = name; size = size })) None)) k h
+
+  -- Counts of the entries that are meant.
+  pub count_named-cons : (is : N → Bool) (x : Entry N) (xs : List (Entry N)) → count_named is (x ∷ xs) ≡ cond (is x.name) 1 0 + count_named is xs
+  count_named-cons is x xs = sum_by-cons (λ (e : Entry N). cond (is e.name) 1 0) x xs
+
+  pub count_named-append : (is : N → Bool) (xs ys : List (Entry N)) → count_named is (xs ++ ys) ≡ count_named is xs + count_named is ys
+  count_named-append is xs ys = sum_by-append (λ (e : Entry N). cond (is e.name) 1 0) xs ys
+
+  -- nobody is found where nobody is counted
+  pub entry_named-none : (is : N → Bool) (entries : List (Entry N)) → count_named is entries ≡ 0 → entry_named is entries ≡ None
+  entry_named-none is [] h = refl
+  entry_named-none is (x ∷ xs) h = go (is x.name) (sym (count_named-cons is x xs) ∙ h) (entry_named-none is xs)
+    where
+      go : (b : Bool) → cond b 1 0 + count_named is xs ≡ 0 → (count_named is xs ≡ 0 → entry_named is xs ≡ None) → cond b (Some x) (entry_named is xs) ≡ None
+      go true e k = absurd (omega arith)
+      go false e k = k (omega arith)
+
+  pub count_named-none : (is : N → Bool) (entries : List (Entry N)) → entry_named is entries ≡ None → count_named is entries ≡ 0
+  count_named-none is [] h = refl
+  count_named-none is (x ∷ xs) h = count_named-cons is x xs ∙ go (is x.name) h (count_named-none is xs)
+    where
+      go : (b : Bool) → cond b (Some x) (entry_named is xs) ≡ None → (entry_named is xs ≡ None → count_named is xs ≡ 0) → cond b 1 0 + count_named is xs ≡ 0
+      go true e k = cc
+      go false e k = let z : count_named is xs ≡ 0 = k e in omega arith
+
+  -- one fewer of those that are meant, and no more of any
+  pub count_named-without_itself : (is : N → Bool) (entries : List (Entry N)) → count_named is (without is entries) ≡ count_named is entries - 1
+  count_named-without_itself is [] = refl
+  count_named-without_itself is (x ∷ xs) = go (is x.name) refl (count_named-without_itself is xs)
+    where
+      go : (b : Bool) → is x.name ≡ b → count_named is (without is xs) ≡ count_named is xs - 1 → count_named is (cond b xs (x ∷ without is xs)) ≡ count_named is (x ∷ xs) - 1
+      go true e k =
+          let p : count_named is (x ∷ xs) ≡ cond true 1 0 + count_named is xs = count_named-cons is x xs ∙ ap (λ (b : Bool). cond b 1 0 + count_named is xs) e in
+          omega arith
+      go false e k =
+          let p : count_named is (x ∷ xs) ≡ cond false 1 0 + count_named is xs = count_named-cons is x xs ∙ ap (λ (b : Bool). cond b 1 0 + count_named is xs) e in
+          let q : count_named is (x ∷ without is xs) ≡ cond false 1 0 + count_named is (without is xs) =
+          count_named-cons is x (without is xs) ∙ ap (λ (b : Bool). cond b 1 0 + count_named is (without is xs)) e in
+          omega arith
+
+  pub count_named-without_le : (is other : N → Bool) (entries : List (Entry N)) → count_named other (without is entries) ≤ count_named other entries
+  count_named-without_le is other [] = omega arith
+  count_named-without_le is other (x ∷ xs) = go (is x.name) (count_named-without_le is other xs)
+    where
+      go : (b : Bool) → count_named other (without is xs) ≤ count_named other xs → count_named other (cond b xs (x ∷ without is xs)) ≤ count_named other (x ∷ xs)
+      go true k = let p = count_named-cons other x xs in omega arith
+      go false k = let p = count_named-cons other x xs in let q = count_named-cons other x (without is xs) in omega arith
+
+  pub count_named-join : (is : N → Bool) (name : N) (size waker : ℕ) (line : Line N) → count_named is (requests (join name size waker line)) ≡ count_named is (requests line) + cond (is name) 1 0
+  count_named-join is name size waker line =
+      ap (λ (es : List (Entry N)). count_named is es) (requests-join name size waker line)
+      ∙ count_named-append is (requests line) (record { name = name; size = size } ∷ [])
+      ∙ ap (λ (n : ℕ). count_named is (requests line) + n) (zero-add (cond (is name) 1 0))
+
+  pub count_named-cancel_le : (is other : N → Bool) (line : Line N) → count_named other (requests (cancel is line)) ≤ count_named other (requests line)
+  count_named-cancel_le is other line = rw (requests-cancel is line) (count_named-without_le is other (requests line))
+
+  pub count_named-poll_granted_le : (is other : N → Bool) (line : Line N) → count_named other (requests (poll_granted is line)) ≤ count_named other (requests line)
+  count_named-poll_granted_le is other line =
+      let p = count_named-append other (without is line.granted) (map entry_of line.waiting) in
+      let q = count_named-append other line.granted (map entry_of line.waiting) in
+      let r = count_named-without_le is other line.granted in
+      omega arith
+
+  pub count_named-poll_waiting : (is other : N → Bool) (waker : ℕ) (line : Line N) → count_named other (requests (poll_waiting is waker line)) ≡ count_named other (requests line)
+  count_named-poll_waiting is other waker line = ap (λ (es : List (Entry N)). count_named other es) (requests-poll_waiting is waker line)
+
+  pub count_named-settle : (is : N → Bool) (line : Line N) → count_named is (requests (settle line)) ≡ count_named is (requests line)
+  count_named-settle is line = ap (λ (es : List (Entry N)). count_named is es) (requests-settle line)
+
+  -- a request that stands once is gone
+  pub entry_named-cancel_itself : (is : N → Bool) (line : Line N) → count_named is (requests line) ≤ 1 → entry_named is (requests (cancel is line)) ≡ None
+  entry_named-cancel_itself is line once =
+      entry_named-none is (requests (cancel is line))
+      (ap (λ (es : List (Entry N)). count_named is es) (requests-cancel is line) ∙ count_named-without_itself is (requests line) ∙ gone (count_named is (requests line)) once)
+    where
+      gone : (n : ℕ) → n ≤ 1 → n - 1 ≡ 0
+      gone n h = omega arith
+
+  pub entry_named-poll_granted_itself : (is : N → Bool) (line : Line N) (found : Entry N) → entry_named is line.granted ≡ Some found → count_named is (requests line) ≤ 1 →
+      entry_named is (requests (poll_granted is line)) ≡ None
+  entry_named-poll_granted_itself is line found h once =
+      entry_named-none is (requests (poll_granted is line))
+      (ap (λ (es : List (Entry N)). count_named is es) (requests-poll_granted is line found h) ∙ count_named-without_itself is (requests line) ∙ gone (count_named is (requests line)) once)
+    where
+      gone : (n : ℕ) → n ≤ 1 → n - 1 ≡ 0
+      gone n h = omega arith

@@ -1,11 +1,11 @@
 -- What a line settles to: a front of those that wait is granted, and the first that is left waits for more than is free.
-use Rattle.std.proofs.Common.{◌≡◌, ℕ, ◌+◌, fold, Bool, true, false, cond, List, [], ◌∷◌, ◌++◌, map, ℤ, pos, ◌+ℤ◌, ◌-ℤ◌, int_le, refl, ap, ap₂, sym, ◌∙◌, arith, append_assoc, append-nil}
+use Rattle.std.proofs.Common.{◌≡◌, ℕ, Option, Some, None, ◌+◌, fold, Bool, true, false, cond, List, [], ◌∷◌, ◌++◌, map, ℤ, pos, ◌+ℤ◌, ◌-ℤ◌, int_le, refl, ap, ap₂, sym, ◌∙◌, arith, append_assoc, append-nil}
 use Rattle.std.specs.Bool.{⊤}
 use Rattle.std.proofs.lemmas.Int.{ints}
 use Rattle.std.proofs.lemmas.Bool.{cond_both}
 use Rattle.std.proofs.lemmas.List.{map-append}
 use Rattle.std.proofs.lemmas.List.Sums.{sum_by-append, sum_by-cons}
-use Rattle.band_balance.specs.Line.{Entry, Waiting, Line, entry_of, requests, total, settle_from, settle, give_back, add_permits, cancel, withdraw}
+use Rattle.band_balance.specs.Line.{Entry, Waiting, Line, entry_of, requests, total, settle_from, settle, give_back, add_permits, entry_named, without, cancel, withdraw}
 
 module _ {N : Type 0} where
   -- those that are granted where so much is free, and those that go on waiting
@@ -173,3 +173,46 @@ module _ {N : Type 0} where
 
   pub settle-settle : (line : Line N) → settle (settle line) ≡ settle line
   settle-settle line = settle_settled (settle line) (HeadWaits-settle line)
+
+  pub free-total-give_back : (n : ℕ) (line : Line N) →
+      (give_back n line).free +ℤ pos (total (give_back n line).granted) ≡ line.free +ℤ pos n +ℤ pos (total line.granted)
+  free-total-give_back n line = free-total-settle (add_permits n line)
+
+  -- the one that leaves had a part of the total
+  pub total-without : (is : N → Bool) (entries : List (Entry N)) (found : Entry N) → entry_named is entries ≡ Some found → found.size + total (without is entries) ≡ total entries
+  total-without is [] found h = cc
+  total-without is (x ∷ xs) found h = go (is x.name) h (total-without is xs found)
+    where
+      go : (b : Bool) → cond b (Some x) (entry_named is xs) ≡ Some found → (entry_named is xs ≡ Some found → found.size + total (without is xs) ≡ total xs) →
+          found.size + total (cond b xs (x ∷ without is xs)) ≡ total (x ∷ xs)
+      go true e k =
+          let same : x ≡ found = cc in
+          ap (λ (y : Entry N). y.size + total xs) (sym same) ∙ sym (total-cons x xs)
+      go false e k =
+          let kept : found.size + total (without is xs) ≡ total xs = k e in
+          let before = total-cons x xs in
+          let after = total-cons x (without is xs) in
+          omega arith
+
+  -- a cancelled request gives back just what it was granted
+  pub free-total-withdraw : (is : N → Bool) (line : Line N) →
+      (withdraw (entry_named is line.granted) is line).free +ℤ pos (total (withdraw (entry_named is line.granted) is line).granted) ≡ line.free +ℤ pos (total line.granted)
+  free-total-withdraw is line = go (entry_named is line.granted) refl
+    where
+      moved : (z : ℤ) (n m k : ℕ) → n + m ≡ k → z +ℤ pos n +ℤ pos m ≡ z +ℤ pos k
+      moved z n m k e = omega (arith, ints)
+
+      go : (found : Option (Entry N)) → entry_named is line.granted ≡ found →
+          (withdraw found is line).free +ℤ pos (total (withdraw found is line).granted) ≡ line.free +ℤ pos (total line.granted)
+      go (Some entry) h = moved line.free entry.size (total (without is line.granted)) (total line.granted) (total-without is line.granted entry h)
+      go None h = refl
+
+  pub free-total-cancel : (is : N → Bool) (line : Line N) →
+      (cancel is line).free +ℤ pos (total (cancel is line).granted) ≡ line.free +ℤ pos (total line.granted)
+  free-total-cancel is line = free-total-settle (withdraw (entry_named is line.granted) is line) ∙ free-total-withdraw is line
+
+  pub HeadWaits-give_back : (n : ℕ) (line : Line N) → HeadWaits (give_back n line).free (give_back n line).waiting
+  HeadWaits-give_back n line = HeadWaits-settle (add_permits n line)
+
+  pub HeadWaits-cancel : (is : N → Bool) (line : Line N) → HeadWaits (cancel is line).free (cancel is line).waiting
+  HeadWaits-cancel is line = HeadWaits-settle (withdraw (entry_named is line.granted) is line)
