@@ -1,0 +1,6 @@
+pub mod Name
+pub mod State
+pub mod Step
+pub mod Table
+pub use Rattle.band_balance.specs.Line
+pub use Rattle.band_balance.specs.Object
