@@ -6,12 +6,14 @@ mod poll;
 mod sink;
 mod source;
 mod steps;
+#[cfg(test)]
+mod tests;
 mod wake_line;
 mod waker;
 
 pub use poll::{Poll, PollError};
-pub use sink::{Sink, SinkError};
-pub use source::{Source, SourceFailed};
+pub use sink::{BytesOut, Sink, SinkError, StdErr, StdOut};
+pub use source::{BytesIn, Source, SourceFailed, StdIn};
 pub use steps::Steps;
 pub use wake_line::WakeLine;
 pub use waker::Waker;

@@ -1,7 +1,10 @@
 //! Where bytes go to.
-ghost use Rattle.std.specs.Prelude.{◌≡◌, ℕ, ◌<◌, ◌≤◌, List, [], ◌++◌, take, length, Option, Some, IfOk, IfErr, OnErr};
+ghost use Rattle.std.specs.Prelude.{◌≡◌, ℕ, ◌+◌, ◌-◌, ◌^◌, ◌<◌, ◌≤◌, min, List, [], ◌++◌, take, length, Option, Some, None, IfOk, IfErr, OnErr, MatchResult};
 ghost use Rattle.band_base.specs.Device.{Rose, Adds};
 
+use std::alloc::Global;
+use std::io::{Stderr, Stdout, Write};
+use std::marker::Model;
 use thiserror::Error;
 
 /// Why a write took nothing.
@@ -32,4 +35,178 @@ pub trait Sink {
         ensures err { OnErr result (written self.new ≡ written self.old) }
         ensures never_fall { faults self.old ≤ faults self.new }
         ensures failed { result ≡ Err SinkError.Failed → Rose (faults self.old) (faults self.new) };
+}
+
+/// A sink that keeps its bytes in memory. It tells them, and fails only where there is no memory.
+#[derive(Drop)]
+pub struct BytesOut {
+    taken: Vec<u8>,
+}
+
+impl Model for BytesOut {
+    ghost use Rattle.std.specs.Prelude.{ℕ, List};
+
+    ghost Value = { List ℕ };
+
+    ghost view = { λ s. s.taken.items };
+}
+
+impl BytesOut {
+    /// A sink with no bytes yet.
+    pub fn new(alloc: Global) -> BytesOut
+        ensures { result ≡ [] }
+    {
+        BytesOut {
+            taken: Vec::new(alloc),
+        }
+    }
+
+    /// The bytes written so far.
+    pub fn bytes(&self) -> &[u8]
+        ensures { result.now ≡ self.now }
+    {
+        &self.taken
+    }
+}
+
+impl Sink for BytesOut {
+    ghost written = { λ s. Some s };
+
+    ghost faults = { λ _. 0 };
+
+    fn write(&mut self, piece: &[u8]) -> Result<usize, SinkError>
+        // It takes the whole piece, or there is no memory and nothing changes.
+        ensures whole { IfOk result (λ n. (n ≡ length piece.now) × (self.new ≡ self.old ++ piece.now)) }
+        ensures unchanged { OnErr result (self.new ≡ self.old) }
+        ensures memory { IfErr result (λ e. e ≡ SinkError.NoMemory) }
+        ensures some { IfOk result (λ n. 0 < length piece.now → 0 < n) }
+    {
+        match self.taken.extend_from_slice(piece) {
+            Ok(()) => Ok(piece.len()),
+            Err(_) => Err(SinkError::NoMemory),
+        }
+    }
+}
+
+/// What the two standard streams share: a writer that keeps nothing back, and how often it has failed.
+#[derive(Drop)]
+struct Edge<W> {
+    writer: W,
+    faults: u64,
+}
+
+impl<W: Write> Edge<W> {
+    fn write(&mut self, piece: &[u8]) -> Result<usize, SinkError>
+        ensures count { IfOk result (λ n. n ≤ length piece.now) }
+        ensures some { IfOk result (λ n. 0 < length piece.now → 0 < n) }
+        ensures failed { IfErr result (λ e. e ≡ SinkError.Failed) }
+        ensures never_fall { self.old.faults ≤ self.new.faults }
+        ensures counts { MatchResult result
+            (λ _. self.new.faults ≡ self.old.faults)
+            (λ _. self.new.faults ≡ min (self.old.faults + 1) (2 ^ 64 - 1)) }
+    {
+        match self.writer.write(piece) {
+            Ok(count) if count > 0 || piece.is_empty() => Ok(count),
+            _ => {
+                self.faults = self.faults.saturating_add(1);
+                Err(SinkError::Failed)
+            }
+        }
+    }
+}
+
+/// The process's standard output as a sink. It tells no bytes; contracts see how often it has failed.
+#[derive(Drop)]
+pub struct StdOut {
+    edge: Edge<Stdout>,
+}
+
+impl Model for StdOut {
+    ghost use Rattle.std.specs.Prelude.{ℕ};
+
+    ghost Value = { ℕ };
+
+    ghost view = { λ s. s.edge.faults };
+}
+
+impl StdOut {
+    /// A sink over `rt.stdout()`, which has not failed yet.
+    pub fn new(stdout: Stdout) -> StdOut
+        ensures { result ≡ 0 }
+    {
+        StdOut {
+            edge: Edge {
+                writer: stdout,
+                faults: 0,
+            },
+        }
+    }
+}
+
+impl Sink for StdOut {
+    ghost written = { λ _. None };
+
+    ghost faults = { λ s. s };
+
+    fn write(&mut self, piece: &[u8]) -> Result<usize, SinkError>
+        ensures count { IfOk result (λ n. n ≤ length piece.now) }
+        ensures some { IfOk result (λ n. 0 < length piece.now → 0 < n) }
+        ensures never_fall { self.old ≤ self.new }
+        ensures failed { result ≡ Err SinkError.Failed → Rose self.old self.new }
+        // An error counts once, and nothing else does.
+        ensures counts { MatchResult result
+            (λ _. self.new ≡ self.old)
+            (λ _. self.new ≡ min (self.old + 1) (2 ^ 64 - 1)) }
+        ensures never_memory { IfErr result (λ e. e ≡ SinkError.Failed) }
+    {
+        self.edge.write(piece)
+    }
+}
+
+/// The process's standard error as a sink. It tells no bytes; contracts see how often it has failed.
+#[derive(Drop)]
+pub struct StdErr {
+    edge: Edge<Stderr>,
+}
+
+impl Model for StdErr {
+    ghost use Rattle.std.specs.Prelude.{ℕ};
+
+    ghost Value = { ℕ };
+
+    ghost view = { λ s. s.edge.faults };
+}
+
+impl StdErr {
+    /// A sink over `rt.stderr()`, which has not failed yet.
+    pub fn new(stderr: Stderr) -> StdErr
+        ensures { result ≡ 0 }
+    {
+        StdErr {
+            edge: Edge {
+                writer: stderr,
+                faults: 0,
+            },
+        }
+    }
+}
+
+impl Sink for StdErr {
+    ghost written = { λ _. None };
+
+    ghost faults = { λ s. s };
+
+    fn write(&mut self, piece: &[u8]) -> Result<usize, SinkError>
+        ensures count { IfOk result (λ n. n ≤ length piece.now) }
+        ensures some { IfOk result (λ n. 0 < length piece.now → 0 < n) }
+        ensures never_fall { self.old ≤ self.new }
+        ensures failed { result ≡ Err SinkError.Failed → Rose self.old self.new }
+        // An error counts once, and nothing else does.
+        ensures counts { MatchResult result
+            (λ _. self.new ≡ self.old)
+            (λ _. self.new ≡ min (self.old + 1) (2 ^ 64 - 1)) }
+        ensures never_memory { IfErr result (λ e. e ≡ SinkError.Failed) }
+    {
+        self.edge.write(piece)
+    }
 }

@@ -1,7 +1,9 @@
 //! Where bytes come from.
-ghost use Rattle.std.specs.Prelude.{◌≡◌, ℕ, ◌<◌, ◌≤◌, List, [], take, length, Option, Some, IfOk, OnErr, IfSome};
+ghost use Rattle.std.specs.Prelude.{◌≡◌, ℕ, ◌+◌, ◌-◌, ◌^◌, ◌<◌, ◌≤◌, min, List, [], ◌++◌, take, length, Option, Some, None, IfOk, OnErr, IfSome, MatchResult};
 ghost use Rattle.band_base.specs.Device.{Rose, GivesFront};
 
+use std::io::{Read, Stdin};
+use std::marker::Model;
 use thiserror::Error;
 
 /// A read failed. The source took nothing.
@@ -26,4 +28,99 @@ pub trait Source {
         ensures err { OnErr result (left self.new ≡ left self.old) }
         ensures never_fall { faults self.old ≤ faults self.new }
         ensures failed { OnErr result (Rose (faults self.old) (faults self.new)) };
+}
+
+/// A source over bytes in memory. It tells what is left, and never fails.
+#[derive(Drop)]
+pub struct BytesIn<'a> {
+    rest: &'a [u8],
+}
+
+impl<'a> Model for BytesIn<'a> {
+    ghost use Rattle.std.specs.Prelude.{ℕ, List};
+
+    ghost Value = { List ℕ };
+
+    ghost view = { λ s. s.rest.now };
+}
+
+impl<'a> BytesIn<'a> {
+    /// A source that has all of `bytes` left.
+    pub fn new(bytes: &'a [u8]) -> BytesIn<'a>
+        ensures { result ≡ bytes.now }
+    {
+        BytesIn { rest: bytes }
+    }
+}
+
+impl Source for BytesIn<'_> {
+    ghost left = { λ s. Some s };
+
+    ghost faults = { λ _. 0 };
+
+    fn read(&mut self, buf: &mut [u8]) -> Result<usize, SourceFailed>
+        // It never fails, and gives as many as fit.
+        ensures most { result ≡ Ok (min (length self.old) (length buf.old)) }
+        ensures count { IfOk result (λ n. n ≤ length buf.old) }
+        ensures front { IfOk result (λ n. self.old ≡ take n buf.new ++ self.new) }
+        ensures end { result ≡ Ok 0 → 0 < length buf.old → self.old ≡ [] }
+        ensures err { OnErr result (Some self.new ≡ Some self.old) }
+        ensures never_fall { 0 ≤ 0 }
+        ensures failed { OnErr result (Rose 0 0) }
+    {
+        let count = self.rest.len().min(buf.len());
+        let (front, rest) = self.rest.split_at(count);
+        buf[..count].copy_from_slice(front);
+        self.rest = rest;
+        Ok(count)
+    }
+}
+
+/// The process's standard input as a source. It tells no bytes; contracts see how often it has failed.
+#[derive(Drop)]
+pub struct StdIn {
+    stdin: Stdin,
+    faults: u64,
+}
+
+impl Model for StdIn {
+    ghost use Rattle.std.specs.Prelude.{ℕ};
+
+    ghost Value = { ℕ };
+
+    ghost view = { λ s. s.faults };
+}
+
+impl StdIn {
+    /// A source over `rt.stdin()`, which has not failed yet.
+    pub fn new(stdin: Stdin) -> StdIn
+        ensures { result ≡ 0 }
+    {
+        StdIn { stdin, faults: 0 }
+    }
+}
+
+impl Source for StdIn {
+    ghost left = { λ _. None };
+
+    ghost faults = { λ s. s };
+
+    fn read(&mut self, buf: &mut [u8]) -> Result<usize, SourceFailed>
+        ensures count { IfOk result (λ n. n ≤ length buf.old) }
+        ensures front { IfOk result (λ n. GivesFront (take n buf.new) None None) }
+        ensures never_fall { self.old ≤ self.new }
+        ensures failed { OnErr result (Rose self.old self.new) }
+        // An error counts once, and nothing else does.
+        ensures counts { MatchResult result
+            (λ _. self.new ≡ self.old)
+            (λ _. self.new ≡ min (self.old + 1) (2 ^ 64 - 1)) }
+    {
+        match self.stdin.read(buf) {
+            Ok(count) => Ok(count),
+            Err(_) => {
+                self.faults = self.faults.saturating_add(1);
+                Err(SourceFailed)
+            }
+        }
+    }
 }

@@ -1,5 +1,5 @@
 //! The wakers to wake, with room kept for more.
-ghost use Rattle.std.specs.Prelude.{◌≡◌, ◌-◌, ◌<◌, ◌≤◌, [], ◌∷◌, ◌++◌, OnOk, OnErr, MatchOption};
+ghost use Rattle.std.specs.Prelude.{◌≡◌, ◌-◌, ◌<◌, ◌≤◌, [], ◌∷◌, ◌++◌, IsOk, OnOk, OnErr, MatchOption};
 ghost use Rattle.band_base.specs.WakeLine.{Wakes};
 
 use crate::Waker;
@@ -43,6 +43,7 @@ impl WakeLine {
         ensures room { OnOk result (n ≤ self.new.spare) }
         ensures no_less { self.old.spare ≤ self.new.spare }
         ensures err { OnErr result (self.new ≡ self.old) }
+        ensures enough { n ≤ self.old.spare → IsOk result }
     {
         if self.spare < n {
             self.wakers.reserve(n as usize)?;

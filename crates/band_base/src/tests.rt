@@ -1,0 +1,127 @@
+//! What no clause says: that calls succeed, the texts of the errors, and the standard streams.
+ghost use Rattle.std.specs.Prelude.{◌≡◌, ◌<◌};
+
+use super::*;
+use std::marker::Brand;
+use std::sync::ledger::{Blank, Ledger};
+use std::test::Fail;
+
+fn two_steps<L: Ledger>(blank: Blank)
+    requires name { blank.name ≡ L.name }
+    requires parts { blank.parts ≡ L.parts }
+    requires some { 0 < blank.parts }
+{
+    let mut steps = Steps::<L>::new(blank);
+    steps.tick();
+    steps.tick();
+}
+
+#[test]
+fn counts_visits() {
+    two_steps::<Brand>(Blank::new(1));
+}
+
+#[test]
+fn wakes_the_oldest_first(rt: HostRuntime) -> Result<(), Fail> {
+    let mut line = WakeLine::new(rt.alloc());
+    line.reserve(2)?;
+    line.push(Waker(5));
+    line.push(Waker(6));
+    assert_eq!(rt; line.spare(), 0);
+    assert_eq!(rt; line.take_wake().map(|waker| waker.0), Some(5));
+    assert_eq!(rt; line.take_wake().map(|waker| waker.0), Some(6));
+    assert_eq!(rt; line.take_wake().map(|waker| waker.0), None);
+    Ok(())
+}
+
+#[test]
+fn same_number_same_waker(rt: HostRuntime) {
+    assert!(rt; Waker(3).will_wake(&Waker(3)));
+    assert!(rt; !Waker(3).will_wake(&Waker(4)));
+}
+
+#[test]
+fn a_poll_has_its_value(rt: HostRuntime) {
+    let value = match Poll::Ready(7u8) {
+        Poll::Ready(value) => Some(value),
+        Poll::Pending => None,
+    };
+    assert_eq!(rt; value, Some(7));
+}
+
+fn read_through<S: Source>(source: &mut S, buf: &mut [u8]) -> Result<usize, SourceFailed> {
+    source.read(buf)
+}
+
+fn write_through<S: Sink>(sink: &mut S, piece: &[u8]) -> Result<usize, SinkError> {
+    sink.write(piece)
+}
+
+#[test]
+fn bytes_come_in_order(rt: HostRuntime) -> Result<(), Fail> {
+    let mut source = BytesIn::new(&[1, 2, 3]);
+    let mut buf = [0; 2];
+    for (count, wanted) in [(2, [1, 2]), (1, [3, 2]), (0, [3, 2])] {
+        assert_eq!(rt; read_through(&mut source, &mut buf)?, count);
+        assert_eq!(rt; buf, wanted);
+    }
+    Ok(())
+}
+
+#[test]
+fn bytes_go_out_in_order(rt: HostRuntime) -> Result<(), Fail> {
+    let mut sink = BytesOut::new(rt.alloc());
+    assert_eq!(rt; write_through(&mut sink, b"ab")?, 2);
+    assert_eq!(rt; write_through(&mut sink, b"c")?, 1);
+    assert_eq!(rt; sink.bytes(), b"abc".as_slice());
+    Ok(())
+}
+
+#[test]
+fn standard_input_answers(rt: HostRuntime) -> Result<(), Fail> {
+    let mut source = StdIn::new(rt.stdin());
+    assert!(rt; read_through(&mut source, &mut [0; 4])? <= 4);
+    Ok(())
+}
+
+#[test]
+fn standard_output_answers(rt: HostRuntime) -> Result<(), Fail> {
+    let mut sink = StdOut::new(rt.stdout());
+    assert_eq!(rt; write_through(&mut sink, b"")?, 0);
+    assert_eq!(rt; write_through(&mut sink, b"\n")?, 1);
+    Ok(())
+}
+
+#[test]
+fn standard_error_answers(rt: HostRuntime) -> Result<(), Fail> {
+    let mut sink = StdErr::new(rt.stderr());
+    assert_eq!(rt; write_through(&mut sink, b"")?, 0);
+    assert_eq!(rt; write_through(&mut sink, b"\n")?, 1);
+    Ok(())
+}
+
+#[test]
+fn errors_have_texts(rt: HostRuntime) -> Result<(), Fail> {
+    let polls = [
+        (PollError::NoMemory, "out of memory"),
+        (PollError::Finished, "polled after it was ready"),
+        (PollError::CountFull, "a count is full"),
+        (PollError::Unknown, "the number is not live"),
+        (PollError::Driven, "a driven state failed"),
+    ];
+    for (error, text) in polls {
+        assert_eq!(rt; error.to_string(rt.alloc())?.as_str(), text);
+    }
+    let sinks = [
+        (SinkError::Failed, "the sink failed"),
+        (SinkError::NoMemory, "out of memory"),
+    ];
+    for (error, text) in sinks {
+        assert_eq!(rt; error.to_string(rt.alloc())?.as_str(), text);
+    }
+    assert_eq!(rt;
+        SourceFailed.to_string(rt.alloc())?.as_str(),
+        "the source failed"
+    );
+    Ok(())
+}
