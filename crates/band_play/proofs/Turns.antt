@@ -94,11 +94,11 @@ slot_apart : (slot other name : ℕ) → (slot ≡ other → ⊥) → is_slot ot
 slot_apart slot other name apart h =
     by_bool (is_slot slot name) (λ k. absurd (apart (slot_same slot name k ∙ sym (slot_same other name h)))) (λ k. k)
 
-apart_on : (slot other : ℕ) (entries : List (Entry ℕ)) → (slot ≡ other → ⊥) → AllByRecursion (λ e. is_slot other e.name ≡ true → is_slot slot e.name ≡ false) entries
+pub apart_on : (slot other : ℕ) (entries : List (Entry ℕ)) → (slot ≡ other → ⊥) → AllByRecursion (λ e. is_slot other e.name ≡ true → is_slot slot e.name ≡ false) entries
 apart_on slot other [] apart = tt
 apart_on slot other (e ∷ es) apart = (slot_apart slot other e.name apart, apart_on slot other es apart)
 
-tags_apart : (m n : List ℕ) (entries : List (Entry Tag)) → bytes_eq m n ≡ false → AllByRecursion (λ e. is_tag n e.name ≡ true → is_tag m e.name ≡ false) entries
+pub tags_apart : (m n : List ℕ) (entries : List (Entry Tag)) → bytes_eq m n ≡ false → AllByRecursion (λ e. is_tag n e.name ≡ true → is_tag m e.name ≡ false) entries
 tags_apart m n [] other = tt
 tags_apart m n (e ∷ es) other =
     ((λ h. by_bool (is_tag m e.name) (λ k. absurd (false≢true (sym other ∙ bytes_same m n (same_bytes m e.name.name k ∙ sym (same_bytes n e.name.name h))))) (λ k. k)),
