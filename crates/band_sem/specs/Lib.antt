@@ -1,4 +1,5 @@
 pub mod Permit
 pub mod Request
 pub mod Semaphore
+pub mod Store
 pub use Rattle.band_balance.specs.Line

@@ -1,7 +1,7 @@
 -- What a contract sees of a semaphore, and what each call makes of it.
-use Rattle.std.specs.Prelude.{◌≡◌, ℕ, ◌+◌, ◌<◌, ◌≤◌, Bool, true, false, ◌==◌, List, [], ◌∷◌, map, ℤ, pos, neg_ℤ, ◌+ℤ◌, ◌<ℤ◌, ◌≤ℤ◌, IsTrue, Option, Some, None, Result, Ok, Err, All, nat_eq}
+use Rattle.std.specs.Prelude.{◌≡◌, ℕ, ◌+◌, ◌≤◌, Bool, false, ◌==◌, List, [], ◌∷◌, map, ℤ, pos, neg_ℤ, ◌+ℤ◌, ◌<ℤ◌, ◌≤ℤ◌, IsTrue, Some, None, Result, Ok, Err, nat_eq}
 use Rattle.std.specs.List.{IsDistinct}
-use Rattle.band_balance.specs.Line.{Entry, Waiting, Line, requests, total, is_served, take_permits, join, entry_named, poll_granted, poll_waiting, cancel}
+use Rattle.band_balance.specs.Line.{Waiting, Line, requests, total, is_served, take_permits, join, entry_named, poll_granted, poll_waiting, cancel}
 use Rattle.band_balance.specs.Object.{u64_max}
 use Rattle.band_base.specs.declared.poll.Poll.{Poll}
 use Rattle.band_base.specs.declared.poll.Poll.TheVariants.{Ready, Pending}
@@ -57,9 +57,9 @@ FirstPoll request waker old (Ok (Ready permit)) request' new =
 FirstPoll request waker old (Ok Pending) request' new =
     (is_served request.size old.line ≡ false)
     × ((slot : ℕ)
-      × (entry_named (is_slot slot) (requests old.line) ≡ None)
-      × (new ≡ record old { line = join slot request.size waker old.line })
-      × (request' ≡ record request { stage = Joined slot }))
+    × (entry_named (is_slot slot) (requests old.line) ≡ None)
+    × (new ≡ record old { line = join slot request.size waker old.line })
+    × (request' ≡ record request { stage = Joined slot }))
 FirstPoll request waker old (Err errors.NoMemory) request' new =
     (is_served request.size old.line ≡ false) × (new ≡ old) × (request' ≡ request)
 FirstPoll request waker old (Err errors.Finished) request' new = ⊥

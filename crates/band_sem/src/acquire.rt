@@ -1,11 +1,12 @@
 //! A request for permits.
 ghost use Rattle.std.specs.Prelude.{◌≡◌};
+ghost use Rattle.band_sem.specs.Semaphore.{IsLawful, IsOwn, Polls, FirstPoll, LaterPoll, cancelled};
 
-
-
-
+use crate::store::Entrance;
+use crate::{Semaphore, SemaphorePermit};
+use band_base::{Poll, PollError, Steps, Waker};
 use std::marker::Model;
-
+use std::sync::ledger::Ledger;
 
 /// What a request has come to.
 #[derive(Drop)]
@@ -59,5 +60,76 @@ impl Acquire {
             size: _,
             stage: _,
         } = self;
+    }
+
+    /// Asks for the permits: the first time it may join the line, and later it asks whether it was granted.
+    pub fn poll_once<L: Ledger>(
+        &mut self,
+        sem: &mut Semaphore,
+        waker: Waker,
+        steps: &mut Steps<L>,
+    ) -> Result<Poll<SemaphorePermit>, PollError>
+        requires number { self.old.of ≡ sem.old.number }
+        requires own { IsOwn self.old.stage self.old.size sem.old.line }
+        ensures polls { Polls self.old waker.0 sem.old result self.new sem.new }
+        ensures lawful { IsLawful sem.new.line sem.new.held }
+    {
+        match self.stage {
+            Stage::NotPolled => self.poll_first(sem, waker),
+            Stage::Joined(slot) => Ok(self.poll_later(sem, slot, waker)),
+            Stage::Finished => {
+                sem.touch();
+                Err(PollError::Finished)
+            }
+        }
+    }
+
+    fn poll_first(
+        &mut self,
+        sem: &mut Semaphore,
+        waker: Waker,
+    ) -> Result<Poll<SemaphorePermit>, PollError>
+        ensures polls { FirstPoll self.old waker.0 sem.old result self.new sem.new }
+        ensures lawful { IsLawful sem.new.line sem.new.held }
+    {
+        match sem.enter(self.size, waker) {
+            Ok(Entrance::Served) => {
+                self.stage = Stage::Finished;
+                Ok(Poll::Ready(SemaphorePermit::new(self.of, self.size)))
+            }
+            Ok(Entrance::Joined(slot)) => {
+                self.stage = Stage::Joined(slot);
+                Ok(Poll::Pending)
+            }
+            Err(_) => Err(PollError::NoMemory),
+        }
+    }
+
+    fn poll_later(&mut self, sem: &mut Semaphore, slot: u64, waker: Waker) -> Poll<SemaphorePermit>
+        requires { IsOwn (Stage.Joined slot) self.old.size sem.old.line }
+        ensures polls { LaterPoll slot self.old waker.0 sem.old (Ok result) self.new sem.new }
+        ensures lawful { IsLawful sem.new.line sem.new.held }
+    {
+        match sem.poll_slot(slot, waker) {
+            Some(size) => {
+                self.stage = Stage::Finished;
+                Poll::Ready(SemaphorePermit::new(self.of, size))
+            }
+            None => Poll::Pending,
+        }
+    }
+
+    /// Ends the request. One that waits leaves the line, and one that was granted gives its permits back. Then the line settles.
+    pub fn cancel<L: Ledger>(self, sem: &mut Semaphore, steps: &mut Steps<L>)
+        requires number { self.of ≡ sem.old.number }
+        requires own { IsOwn self.stage self.size sem.old.line }
+        ensures state { sem.new ≡ cancelled self.stage sem.old }
+        ensures lawful { IsLawful sem.new.line sem.new.held }
+    {
+        match &self.stage {
+            Stage::Joined(slot) => sem.cancel(*slot),
+            Stage::NotPolled | Stage::Finished => sem.touch(),
+        }
+        self.lose();
     }
 }

@@ -2,12 +2,13 @@
 #![tactic(auto)]
 
 mod acquire;
+mod entry;
 mod permit;
 mod refusal;
-
-
+mod semaphore;
+mod store;
 
 pub use acquire::Acquire;
 pub use permit::SemaphorePermit;
 pub use refusal::Refusal;
-
+pub use semaphore::Semaphore;

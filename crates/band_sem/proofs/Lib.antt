@@ -1,0 +1,4 @@
+pub mod Lawful
+pub mod Line
+pub mod Places
+pub mod Slots

@@ -1,0 +1,47 @@
+use Rattle.std.proofs.Common.{◌≡◌, ℕ, ap, sym, ◌∙◌, set}
+use Rattle.std.proofs.lemmas.List.{length-set}
+use Rattle.band_balance.specs.Line.{Waiting, leave_waker}
+use Rattle.band_sem.specs.Semaphore.{is_slot}
+use Rattle.band_sem.proofs.Line.{HeadWaits-leave_waker}
+use Rattle.band_sem.proofs.Places.{IsFirst-position, leave_waker-first, leave_waker-nowhere, nowhere-position, entries-leave_waker}
+use Rattle.band_sem.proofs.store.Store.leave_waker.Goals as goal
+
+abbrev with_waker : ℕ → Waiting ℕ → Waiting ℕ
+with_waker waker w = record w { waker = waker }
+
+written : (c : goal.After-self-1) → set c.args.self.now.waiting.items c.in-Some.place c.leave.new.self ≡ leave_waker (is_slot c.args.slot) c.args.waker.0 c.args.self.now.waiting.items
+written c =
+    let ws = c.args.self.now.waiting.items in
+    let d = c.index_mut-request.result.now in
+    let first = IsFirst-position (λ w. is_slot c.args.slot w.name) ws c.in-Some.place d (sym c.place_waiting.ensures ∙ c.in-Some.is) in
+    ap (λ v. set ws c.in-Some.place v) (c.leave.ensures ∙ ap (with_waker c.args.waker.0) c.index_mut-request.ensures.value)
+    ∙ sym (leave_waker-first (is_slot c.args.slot) c.args.waker.0 ws c.in-Some.place d first)
+
+pub returns-in-Some-clause-state : goal.returns-in-Some-clause-state
+returns-in-Some-clause-state c =
+    let s = c.args.self.now in
+    ap (λ ws. record { number = s.number; line = record { free = s.free; waiting = ws; granted = s.granted.items; wakes = s.wakes.wakers }; held = s.held }) (written c)
+
+pub returns-in-Some-clause-sound : goal.returns-in-Some-clause-sound
+returns-in-Some-clause-sound c =
+    let s = c.args.self.now in
+    let kept = c.requires.kept in
+    let same = length-set s.waiting.items c.in-Some.place c.leave.new.self in
+    record {
+      kept = record {
+        slots_rise = rw (written c, entries-leave_waker (is_slot c.args.slot) c.args.waker.0 s.waiting.items) kept.slots_rise;
+        in_hand = kept.in_hand;
+        in_all = kept.in_all;
+        owed = kept.owed;
+        grants_fit = rw same kept.grants_fit;
+        wakes_fit = rw same kept.wakes_fit;
+      };
+      head_waits = rw (written c) (HeadWaits-leave_waker (is_slot c.args.slot) c.args.waker.0 s.free s.waiting.items c.requires.head_waits);
+    }
+
+pub returns-in_default-clause-state : goal.returns-in_default-clause-state
+returns-in_default-clause-state c =
+    let s = c.args.self.now in
+    let nowhere = nowhere-position (λ w. is_slot c.args.slot w.name) s.waiting.items (sym c.place_waiting.ensures ∙ c.in_default.is) in
+    ap (λ ws. record { number = s.number; line = record { free = s.free; waiting = ws; granted = s.granted.items; wakes = s.wakes.wakers }; held = s.held })
+    (sym (leave_waker-nowhere (is_slot c.args.slot) c.args.waker.0 s.waiting.items nowhere))
