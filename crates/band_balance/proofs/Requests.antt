@@ -1,11 +1,11 @@
 -- Who is in the line after each step, and who is found there.
-use Rattle.std.proofs.Common.{◌≡◌, ℕ, ◌+◌, ◌-◌, ◌≤◌, Bool, true, false, cond, List, [], ◌∷◌, ◌++◌, map, ℤ, pos, Option, Some, None, count_by, find, refl, ap, ap₂, sym, ◌∙◌, arith, append_assoc, zero-add}
+use Rattle.std.proofs.Common.{◌≡◌, ℕ, ◌+◌, ◌-◌, ◌≤◌, Bool, true, false, cond, List, [], ◌∷◌, ◌++◌, map, Option, Some, None, count_by, refl, ap, ap₂, sym, ◌∙◌, arith, append_assoc, zero-add}
 use Rattle.std.specs.List.{AllByRecursion}
 use Rattle.std.specs.Option.{option_or}
 use Rattle.std.proofs.lemmas.List.{map-append}
 use Rattle.std.proofs.lemmas.List.Folds.{find-append}
 use Rattle.std.proofs.lemmas.List.Sums.{sum_by-append, sum_by-cons}
-use Rattle.std.proofs.lemmas.Bool.{cond_both, true≢false, cases_Bool}
+use Rattle.std.proofs.lemmas.Bool.{cond_both, true≢false}
 use Rattle.band_balance.specs.Line.{Entry, Waiting, Line, entry_of, requests, settle, take_permits, add_permits, give_back, join, entry_named, without, without_waiting, leave_waker, poll_granted, poll_waiting, withdraw, cancel}
 use Rattle.band_balance.proofs.Rename.{all_of_first}
 use Rattle.band_balance.proofs.Settle.{requests-settle}
