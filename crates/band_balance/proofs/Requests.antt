@@ -223,3 +223,13 @@ module _ {N : Type 0} where
     where
       gone : (n : ℕ) → n ≤ 1 → n - 1 ≡ 0
       gone n h = omega arith
+
+  -- who is in the line and was not granted waits
+  pub entry_named-requests : (is : N → Bool) (line : Line N) → entry_named is (requests line) ≡ option_or (entry_named is line.granted) (entry_named is (map entry_of line.waiting))
+  entry_named-requests is line = entry_named-append is line.granted (map entry_of line.waiting)
+
+  pub entry_named-granted : (is : N → Bool) (line : Line N) (found : Entry N) → entry_named is line.granted ≡ Some found → entry_named is (requests line) ≡ Some found
+  entry_named-granted is line found h = entry_named-requests is line ∙ ap (λ (o : Option (Entry N)). option_or o (entry_named is (map entry_of line.waiting))) h
+
+  pub entry_named-waiting : (is : N → Bool) (line : Line N) → entry_named is line.granted ≡ None → entry_named is (requests line) ≡ entry_named is (map entry_of line.waiting)
+  entry_named-waiting is line h = entry_named-requests is line ∙ ap (λ (o : Option (Entry N)). option_or o (entry_named is (map entry_of line.waiting))) h

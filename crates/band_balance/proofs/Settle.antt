@@ -227,6 +227,7 @@ module _ {N : Type 0} where
     where
       less : (s : ℕ) (z : ℤ) → z <ℤ pos s → (z -ℤ pos n) <ℤ pos s
       less s z e = omega (arith, ints)
+
       go : (waiting : List (Waiting N)) → HeadWaits line.free waiting → HeadWaits (line.free -ℤ pos n) waiting
       go [] k = tt
       go (first ∷ rest) k = less first.size line.free k
@@ -243,11 +244,11 @@ module _ {N : Type 0} where
 
   -- who is not served joins, and the head waits
   pub HeadWaits-join : (name : N) (size waker : ℕ) (line : Line N) → HeadWaits line.free line.waiting → is_served size line ≡ false →
-    HeadWaits (join name size waker line).free (join name size waker line).waiting
+      HeadWaits (join name size waker line).free (join name size waker line).waiting
   HeadWaits-join name size waker line h e = go line.waiting h (or_parts (size == 0) (nobody_waits line.waiting && int_le (pos size) line.free) e).1
     where
       go : (waiting : List (Waiting N)) → HeadWaits line.free waiting → (nobody_waits waiting && int_le (pos size) line.free) ≡ false →
-        HeadWaits line.free (waiting ++ record { name = name; size = size; waker = waker } ∷ [])
+          HeadWaits line.free (waiting ++ record { name = name; size = size; waker = waker } ∷ [])
       go [] k l = lt_from_le_false size line.free l
       go (first ∷ rest) k l = k
 
@@ -255,8 +256,8 @@ module _ {N : Type 0} where
   pub granted_stays-settle : (is : N → Bool) (line : Line N) (found : Entry N) → entry_named is line.granted ≡ Some found → entry_named is (settle line).granted ≡ Some found
   granted_stays-settle is line found h =
       ap (λ (es : List (Entry N)). entry_named is es) (granted-settle line)
-        ∙ find-append (λ (e : Entry N). is e.name) line.granted (map entry_of (passed line.free line.waiting))
-        ∙ ap (λ (o : Option (Entry N)). option_or o (entry_named is (map entry_of (passed line.free line.waiting)))) h
+      ∙ find-append (λ (e : Entry N). is e.name) line.granted (map entry_of (passed line.free line.waiting))
+      ∙ ap (λ (o : Option (Entry N)). option_or o (entry_named is (map entry_of (passed line.free line.waiting)))) h
 
   pub granted_stays-give_back : (is : N → Bool) (n : ℕ) (line : Line N) (found : Entry N) → entry_named is line.granted ≡ Some found → entry_named is (give_back n line).granted ≡ Some found
   granted_stays-give_back is n line found h = granted_stays-settle is (add_permits n line) found h
