@@ -1,5 +1,5 @@
 -- What a line settles to: a front of those that wait is granted, and the first that is left waits for more than is free.
-use Rattle.std.proofs.Common.{◌≡◌, ℕ, ◌==◌, ◌&&◌, ◌||◌, Option, Some, None, ◌+◌, Bool, true, false, cond, List, [], ◌∷◌, ◌++◌, map, ℤ, pos, ◌+ℤ◌, ◌-ℤ◌, ◌<ℤ◌, int_le, refl, ap, sym, ◌∙◌, arith, append_assoc, append-nil}
+use Rattle.std.proofs.Common.{◌≡◌, ℕ, ◌==◌, ◌&&◌, Option, Some, None, ◌+◌, Bool, true, false, cond, List, [], ◌∷◌, ◌++◌, map, ℤ, pos, ◌+ℤ◌, ◌-ℤ◌, ◌<ℤ◌, int_le, refl, ap, sym, ◌∙◌, arith, append_assoc, append-nil}
 use Rattle.std.proofs.lemmas.Int.{ints}
 use Rattle.std.proofs.lemmas.Bool.{cond_both, or_parts}
 use Rattle.std.proofs.lemmas.List.Folds.{find-append}
@@ -261,3 +261,17 @@ module _ {N : Type 0} where
 
   pub granted_stays-give_back : (is : N → Bool) (n : ℕ) (line : Line N) (found : Entry N) → entry_named is line.granted ≡ Some found → entry_named is (give_back n line).granted ≡ Some found
   granted_stays-give_back is n line found h = granted_stays-settle is (add_permits n line) found h
+
+  -- The wakers of a line stay in front of those that a step adds, and change nothing else.
+  pub settle-wakes : (line : Line N) → settle line ≡ after_wakes line.wakes (settle (record line { wakes = [] }))
+  settle-wakes line = settle_from-wakes line.free line.waiting line.granted line.wakes
+
+  pub give_back-wakes : (n : ℕ) (line : Line N) → give_back n line ≡ after_wakes line.wakes (give_back n (record line { wakes = [] }))
+  give_back-wakes n line = settle-wakes (add_permits n line)
+
+  pub cancel-wakes : (is : N → Bool) (line : Line N) → cancel is line ≡ after_wakes line.wakes (cancel is (record line { wakes = [] }))
+  cancel-wakes is line = go (entry_named is line.granted)
+    where
+      go : (found : Option (Entry N)) → settle (withdraw found is line) ≡ after_wakes line.wakes (settle (withdraw found is (record line { wakes = [] })))
+      go (Some entry) = settle-wakes (withdraw (Some entry) is line)
+      go None = settle-wakes (withdraw None is line)
