@@ -1,3 +1,4 @@
 pub mod Rename
 pub mod Settle
 pub mod Requests
+pub mod Distinct

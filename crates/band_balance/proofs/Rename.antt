@@ -1,5 +1,5 @@
 -- A line under other names: each step commutes with `rename`, where the tests on the names agree.
-use Rattle.std.proofs.Common.{◌≡◌, ℕ, ◌+◌, fold, Bool, true, false, cond, List, [], ◌∷◌, ◌++◌, map, ℤ, pos, ◌-ℤ◌, int_le, Option, Some, None, option_map, refl, ap, ap₂, sym, ◌∙◌, arith, ◌==◌, ◌||◌, ◌&&◌}
+use Rattle.std.proofs.Common.{◌≡◌, ℕ, ◌+◌, fold, Bool, true, false, cond, List, [], ◌∷◌, ◌++◌, map, ℤ, pos, ◌-ℤ◌, int_le, Option, Some, None, option_map, refl, ap, ap₂, sym, ◌∙◌, ◌==◌, ◌||◌, ◌&&◌}
 use Rattle.std.specs.List.{AllByRecursion}
 use Rattle.std.proofs.lemmas.List.{map-append}
 use Rattle.band_balance.specs.Line.{Entry, Waiting, Line, entry_of, requests, total, nobody_waits, settle_from, settle, is_served, take_permits, add_permits, give_back, join, available, drained, entry_named, without, without_waiting, leave_waker, poll_granted, poll_waiting, withdraw, cancel, renamed, renamed_waiting, rename}

@@ -1,13 +1,13 @@
 -- Who is in the line after each step, and who is found there.
-use Rattle.std.proofs.Common.{◌≡◌, ℕ, ◌+◌, ◌-◌, ◌≤◌, Bool, true, false, cond, List, [], ◌∷◌, ◌++◌, map, ℤ, pos, Option, Some, None, count_by, find, refl, ap, ap₂, sym, ◌∙◌, arith, append_assoc, zero-add}
+use Rattle.std.proofs.Common.{◌≡◌, ℕ, ◌+◌, ◌-◌, ◌≤◌, Bool, true, false, cond, List, [], ◌∷◌, ◌++◌, map, Option, Some, None, count_by, refl, ap, ap₂, sym, ◌∙◌, arith, append_assoc, zero-add, subst}
 use Rattle.std.specs.List.{AllByRecursion}
 use Rattle.std.specs.Option.{option_or}
 use Rattle.std.proofs.lemmas.List.{map-append}
 use Rattle.std.proofs.lemmas.List.Folds.{find-append}
 use Rattle.std.proofs.lemmas.List.Sums.{sum_by-append, sum_by-cons}
-use Rattle.std.proofs.lemmas.Bool.{cond_both, true≢false, cases_Bool}
+use Rattle.std.proofs.lemmas.Bool.{cond_both, true≢false}
 use Rattle.band_balance.specs.Line.{Entry, Waiting, Line, entry_of, requests, settle, take_permits, add_permits, give_back, join, entry_named, without, without_waiting, leave_waker, poll_granted, poll_waiting, withdraw, cancel}
-use Rattle.band_balance.proofs.Rename.{all_of_first}
+use Rattle.band_balance.proofs.Rename.{all_of_first, all_of_second, all_of_both}
 use Rattle.band_balance.proofs.Settle.{requests-settle}
 
 module _ {N : Type 0} where
@@ -223,3 +223,81 @@ module _ {N : Type 0} where
     where
       gone : (n : ℕ) → n ≤ 1 → n - 1 ≡ 0
       gone n h = omega arith
+
+  -- who is in the line and was not granted waits
+  pub entry_named-requests : (is : N → Bool) (line : Line N) → entry_named is (requests line) ≡ option_or (entry_named is line.granted) (entry_named is (map entry_of line.waiting))
+  entry_named-requests is line = entry_named-append is line.granted (map entry_of line.waiting)
+
+  pub entry_named-granted : (is : N → Bool) (line : Line N) (found : Entry N) → entry_named is line.granted ≡ Some found → entry_named is (requests line) ≡ Some found
+  entry_named-granted is line found h = entry_named-requests is line ∙ ap (λ (o : Option (Entry N)). option_or o (entry_named is (map entry_of line.waiting))) h
+
+  pub entry_named-waiting : (is : N → Bool) (line : Line N) → entry_named is line.granted ≡ None → entry_named is (requests line) ≡ entry_named is (map entry_of line.waiting)
+  entry_named-waiting is line h = entry_named-requests is line ∙ ap (λ (o : Option (Entry N)). option_or o (entry_named is (map entry_of line.waiting))) h
+
+  -- What holds of each request goes on holding of those that stay.
+  pub all-without : (P : Entry N → Type 0) (is : N → Bool) (entries : List (Entry N)) → AllByRecursion P entries → AllByRecursion P (without is entries)
+  all-without P is [] h = h
+  all-without P is (x ∷ xs) h = go (is x.name) (all-without P is xs h.1)
+    where
+      go : (b : Bool) → AllByRecursion P (without is xs) → AllByRecursion P (cond b xs (x ∷ without is xs))
+      go true k = h.1
+      go false k = (h.0, k)
+
+  pub all-requests-settle : (P : Entry N → Type 0) (line : Line N) → AllByRecursion P (requests line) → AllByRecursion P (requests (settle line))
+  all-requests-settle P line h = rw (requests-settle line) h
+
+  pub all-requests-give_back : (P : Entry N → Type 0) (n : ℕ) (line : Line N) → AllByRecursion P (requests line) → AllByRecursion P (requests (give_back n line))
+  all-requests-give_back P n line h = rw (requests-give_back n line) h
+
+  pub all-requests-poll_waiting : (P : Entry N → Type 0) (is : N → Bool) (waker : ℕ) (line : Line N) → AllByRecursion P (requests line) → AllByRecursion P (requests (poll_waiting is waker line))
+  all-requests-poll_waiting P is waker line h = rw (requests-poll_waiting is waker line) h
+
+  pub all-requests-poll_granted : (P : Entry N → Type 0) (is : N → Bool) (line : Line N) → AllByRecursion P (requests line) → AllByRecursion P (requests (poll_granted is line))
+  all-requests-poll_granted P is line h =
+      all_of_both P (without is line.granted) (map entry_of line.waiting)
+      (all-without P is line.granted (all_of_first P line.granted (map entry_of line.waiting) h))
+      (all_of_second P line.granted (map entry_of line.waiting) h)
+
+  pub all-requests-cancel : (P : Entry N → Type 0) (is : N → Bool) (line : Line N) → AllByRecursion P (requests line) → AllByRecursion P (requests (cancel is line))
+  all-requests-cancel P is line h = rw (requests-cancel is line) (all-without P is (requests line) h)
+
+  pub all-requests-join : (P : Entry N → Type 0) (name : N) (size waker : ℕ) (line : Line N) → AllByRecursion P (requests line) → P (record { name = name; size = size }) →
+      AllByRecursion P (requests (join name size waker line))
+  all-requests-join P name size waker line h k = rw (requests-join name size waker line) (all_of_both P (requests line) (record { name = name; size = size } ∷ []) h (k, tt))
+
+  -- what holds of each is had of the one that is found
+  pub all-found : (P : Entry N → Type 0) (is : N → Bool) (entries : List (Entry N)) (found : Entry N) → AllByRecursion P entries → entry_named is entries ≡ Some found → P found
+  all-found P is [] found h e = cc
+  all-found P is (x ∷ xs) found h e = go (is x.name) e (all-found P is xs found h.1)
+    where
+      go : (b : Bool) → cond b (Some x) (entry_named is xs) ≡ Some found → (entry_named is xs ≡ Some found → P found) → P found
+      go true k ih = let same : x ≡ found = cc in subst P same h.0
+      go false k ih = ih k
+
+  -- who is found is meant
+  pub found_is_named : (is : N → Bool) (entries : List (Entry N)) (found : Entry N) → entry_named is entries ≡ Some found → is found.name ≡ true
+  found_is_named is [] found e = cc
+  found_is_named is (x ∷ xs) found e = go (is x.name) refl e (found_is_named is xs found)
+    where
+      go : (b : Bool) → is x.name ≡ b → cond b (Some x) (entry_named is xs) ≡ Some found → (entry_named is xs ≡ Some found → is found.name ≡ true) → is found.name ≡ true
+      go true k l ih = let same : x ≡ found = cc in subst (λ (y : Entry N). is y.name ≡ true) same k
+      go false k l ih = ih l
+
+  -- where nobody is found, nobody is meant
+  pub all-not_named : (is : N → Bool) (entries : List (Entry N)) → entry_named is entries ≡ None → AllByRecursion (λ e. is e.name ≡ false) entries
+  all-not_named is [] h = tt
+  all-not_named is (x ∷ xs) h = go (is x.name) refl h (all-not_named is xs)
+    where
+      go : (b : Bool) → is x.name ≡ b → cond b (Some x) (entry_named is xs) ≡ None → (entry_named is xs ≡ None → AllByRecursion (λ e. is e.name ≡ false) xs) →
+          (is x.name ≡ false) × AllByRecursion (λ e. is e.name ≡ false) xs
+      go true k l ih = cc
+      go false k l ih = (k, ih l)
+
+  pub none-from_all : (is : N → Bool) (entries : List (Entry N)) → AllByRecursion (λ e. is e.name ≡ false) entries → entry_named is entries ≡ None
+  none-from_all is [] h = refl
+  none-from_all is (x ∷ xs) h = rw h.0 (none-from_all is xs h.1)
+
+-- a weaker fact of each
+pub all-weaker : {X : Type 0} (P Q : X → Type 0) → ((x : X) → P x → Q x) → (xs : List X) → AllByRecursion P xs → AllByRecursion Q xs
+all-weaker P Q weaker [] h = tt
+all-weaker P Q weaker (x ∷ xs) h = (weaker x h.0, all-weaker P Q weaker xs h.1)

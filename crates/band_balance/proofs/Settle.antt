@@ -1,11 +1,19 @@
 -- What a line settles to: a front of those that wait is granted, and the first that is left waits for more than is free.
-use Rattle.std.proofs.Common.{◌≡◌, ℕ, Option, Some, None, ◌+◌, fold, Bool, true, false, cond, List, [], ◌∷◌, ◌++◌, map, ℤ, pos, ◌+ℤ◌, ◌-ℤ◌, int_le, refl, ap, ap₂, sym, ◌∙◌, arith, append_assoc, append-nil}
-use Rattle.std.specs.Bool.{⊤}
+use Rattle.std.proofs.Common.{◌≡◌, ℕ, ◌==◌, ◌&&◌, Option, Some, None, ◌+◌, Bool, true, false, cond, List, [], ◌∷◌, ◌++◌, map, ℤ, pos, ◌+ℤ◌, ◌-ℤ◌, ◌<ℤ◌, int_le, refl, ap, sym, ◌∙◌, arith, append_assoc, append-nil}
 use Rattle.std.proofs.lemmas.Int.{ints}
-use Rattle.std.proofs.lemmas.Bool.{cond_both}
-use Rattle.std.proofs.lemmas.List.{map-append}
+use Rattle.std.proofs.lemmas.Bool.{cond_both, or_parts}
+use Rattle.std.proofs.lemmas.List.Folds.{find-append}
+use Rattle.std.specs.Option.{option_or}
 use Rattle.std.proofs.lemmas.List.Sums.{sum_by-append, sum_by-cons}
-use Rattle.band_balance.specs.Line.{Entry, Waiting, Line, entry_of, requests, total, settle_from, settle, give_back, add_permits, entry_named, without, cancel, withdraw}
+use Rattle.band_balance.specs.Line.{Entry, Waiting, Line, entry_of, requests, total, settle_from, settle, give_back, take_permits, add_permits, entry_named, without, cancel, withdraw, is_served, nobody_waits, join, poll_granted, poll_waiting, leave_waker}
+use Rattle.band_balance.specs.Settled.{HeadWaits}
+
+-- what a settled head says, as a test and as a fact
+pub lt_from_le_false : (n : ℕ) (z : ℤ) → int_le (pos n) z ≡ false → z <ℤ pos n
+lt_from_le_false n z e = grind (arith, ints)
+
+pub le_false_from_lt : (n : ℕ) (z : ℤ) → z <ℤ pos n → int_le (pos n) z ≡ false
+le_false_from_lt n z h = grind (arith, ints)
 
 module _ {N : Type 0} where
   -- those that are granted where so much is free, and those that go on waiting
@@ -147,18 +155,14 @@ module _ {N : Type 0} where
   pub free-total-settle : (line : Line N) → (settle line).free +ℤ pos (total (settle line).granted) ≡ line.free +ℤ pos (total line.granted)
   free-total-settle line = free-total-settle_from line.free line.waiting line.granted line.wakes
 
-  -- the first of those that wait asks for more than is free
-  abbrev pub HeadWaits : ℤ → List (Waiting N) → Type 0
-  HeadWaits free [] = ⊤
-  HeadWaits free (first ∷ rest) = int_le (pos first.size) free ≡ false
-
+  -- The first that waits asks for more than is free.
   pub HeadWaits-settle_from : (free : ℤ) (waiting : List (Waiting N)) (granted : List (Entry N)) (wakes : List ℕ) →
       HeadWaits (settle_from free waiting granted wakes).free (settle_from free waiting granted wakes).waiting
   HeadWaits-settle_from free [] granted wakes = tt
   HeadWaits-settle_from free (first ∷ rest) granted wakes =
       cond_both (int_le (pos first.size) free) _ _ (λ (line : Line N). HeadWaits line.free line.waiting)
       (λ e. HeadWaits-settle_from (free -ℤ pos first.size) rest (granted ++ entry_of first ∷ []) (wakes ++ first.waker ∷ []))
-      (λ e. e)
+      (lt_from_le_false first.size free)
 
   pub HeadWaits-settle : (line : Line N) → HeadWaits (settle line).free (settle line).waiting
   HeadWaits-settle line = HeadWaits-settle_from line.free line.waiting line.granted line.wakes
@@ -169,7 +173,7 @@ module _ {N : Type 0} where
     where
       go : (waiting : List (Waiting N)) → HeadWaits line.free waiting → settle_from line.free waiting line.granted line.wakes ≡ record { free = line.free; waiting = waiting; granted = line.granted; wakes = line.wakes }
       go [] k = refl
-      go (first ∷ rest) k = rw k refl
+      go (first ∷ rest) k = rw (le_false_from_lt first.size line.free k) refl
 
   pub settle-settle : (line : Line N) → settle (settle line) ≡ settle line
   settle-settle line = settle_settled (settle line) (HeadWaits-settle line)
@@ -216,3 +220,58 @@ module _ {N : Type 0} where
 
   pub HeadWaits-cancel : (is : N → Bool) (line : Line N) → HeadWaits (cancel is line).free (cancel is line).waiting
   HeadWaits-cancel is line = HeadWaits-settle (withdraw (entry_named is line.granted) is line)
+
+  -- A line whose head waits stays so where nothing comes to the free ones.
+  pub HeadWaits-take_permits : (n : ℕ) (line : Line N) → HeadWaits line.free line.waiting → HeadWaits (take_permits n line).free (take_permits n line).waiting
+  HeadWaits-take_permits n line h = go line.waiting h
+    where
+      less : (s : ℕ) (z : ℤ) → z <ℤ pos s → (z -ℤ pos n) <ℤ pos s
+      less s z e = omega (arith, ints)
+
+      go : (waiting : List (Waiting N)) → HeadWaits line.free waiting → HeadWaits (line.free -ℤ pos n) waiting
+      go [] k = tt
+      go (first ∷ rest) k = less first.size line.free k
+
+  pub HeadWaits-poll_granted : (is : N → Bool) (line : Line N) → HeadWaits line.free line.waiting → HeadWaits (poll_granted is line).free (poll_granted is line).waiting
+  HeadWaits-poll_granted is line h = h
+
+  pub HeadWaits-poll_waiting : (is : N → Bool) (waker : ℕ) (line : Line N) → HeadWaits line.free line.waiting → HeadWaits (poll_waiting is waker line).free (poll_waiting is waker line).waiting
+  HeadWaits-poll_waiting is waker line h = go line.waiting h
+    where
+      go : (waiting : List (Waiting N)) → HeadWaits line.free waiting → HeadWaits line.free (leave_waker is waker waiting)
+      go [] k = tt
+      go (first ∷ rest) k = cond_both (is first.name) _ _ (λ (left : List (Waiting N)). HeadWaits line.free left) (λ e. k) (λ e. k)
+
+  -- who is not served joins, and the head waits
+  pub HeadWaits-join : (name : N) (size waker : ℕ) (line : Line N) → HeadWaits line.free line.waiting → is_served size line ≡ false →
+      HeadWaits (join name size waker line).free (join name size waker line).waiting
+  HeadWaits-join name size waker line h e = go line.waiting h (or_parts (size == 0) (nobody_waits line.waiting && int_le (pos size) line.free) e).1
+    where
+      go : (waiting : List (Waiting N)) → HeadWaits line.free waiting → (nobody_waits waiting && int_le (pos size) line.free) ≡ false →
+          HeadWaits line.free (waiting ++ record { name = name; size = size; waker = waker } ∷ [])
+      go [] k l = lt_from_le_false size line.free l
+      go (first ∷ rest) k l = k
+
+  -- one that was granted stays granted until it is polled or dropped
+  pub granted_stays-settle : (is : N → Bool) (line : Line N) (found : Entry N) → entry_named is line.granted ≡ Some found → entry_named is (settle line).granted ≡ Some found
+  granted_stays-settle is line found h =
+      ap (λ (es : List (Entry N)). entry_named is es) (granted-settle line)
+      ∙ find-append (λ (e : Entry N). is e.name) line.granted (map entry_of (passed line.free line.waiting))
+      ∙ ap (λ (o : Option (Entry N)). option_or o (entry_named is (map entry_of (passed line.free line.waiting)))) h
+
+  pub granted_stays-give_back : (is : N → Bool) (n : ℕ) (line : Line N) (found : Entry N) → entry_named is line.granted ≡ Some found → entry_named is (give_back n line).granted ≡ Some found
+  granted_stays-give_back is n line found h = granted_stays-settle is (add_permits n line) found h
+
+  -- The wakers of a line stay in front of those that a step adds, and change nothing else.
+  pub settle-wakes : (line : Line N) → settle line ≡ after_wakes line.wakes (settle (record line { wakes = [] }))
+  settle-wakes line = settle_from-wakes line.free line.waiting line.granted line.wakes
+
+  pub give_back-wakes : (n : ℕ) (line : Line N) → give_back n line ≡ after_wakes line.wakes (give_back n (record line { wakes = [] }))
+  give_back-wakes n line = settle-wakes (add_permits n line)
+
+  pub cancel-wakes : (is : N → Bool) (line : Line N) → cancel is line ≡ after_wakes line.wakes (cancel is (record line { wakes = [] }))
+  cancel-wakes is line = go (entry_named is line.granted)
+    where
+      go : (found : Option (Entry N)) → settle (withdraw found is line) ≡ after_wakes line.wakes (settle (withdraw found is (record line { wakes = [] })))
+      go (Some entry) = settle-wakes (withdraw (Some entry) is line)
+      go None = settle-wakes (withdraw None is line)

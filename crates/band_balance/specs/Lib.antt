@@ -1,3 +1,4 @@
 pub mod Line
+pub mod Settled
 pub mod Object
 pub mod Rows

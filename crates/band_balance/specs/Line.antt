@@ -1,6 +1,6 @@
 -- A line: what is free, who waits, who was granted and has not polled since, and the wakers to wake.
 -- N is what names an entry: a slot of a semaphore, or a name of a script with its mode.
-use Rattle.std.specs.Prelude.{ℕ, Bool, true, false, ◌&&◌, ◌||◌, ◌==◌, List, [], ◌∷◌, ◌++◌, map, min, length, ℤ, pos, ◌+ℤ◌, ◌-ℤ◌, int_le, int_lt, unsigned_abs, if◌then◌else◌, Option, Some, None, find, sum_by}
+use Rattle.std.specs.Prelude.{ℕ, Bool, true, false, ◌&&◌, ◌||◌, ◌==◌, List, [], ◌∷◌, ◌++◌, map, min, ℤ, pos, ◌+ℤ◌, ◌-ℤ◌, int_le, int_lt, unsigned_abs, if◌then◌else◌, Option, Some, None, find, sum_by}
 
 -- a request that was granted, or a permit that is held
 pub record Entry (N : Type 0) : Type 0 where
