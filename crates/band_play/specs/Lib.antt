@@ -1,3 +1,4 @@
+pub mod Moves
 pub mod Name
 pub mod State
 pub mod Step

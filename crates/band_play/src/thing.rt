@@ -1,6 +1,11 @@
 //! What a name stands for in the player's table.
+ghost use Rattle.std.specs.Prelude.{◌≡◌, ◌<◌, length};
+ghost use Rattle.band_play.specs.Moves.{IsFit, PollsThing, DropsThing};
 
-use band_sem::{Acquire, SemaphorePermit};
+use crate::Reply;
+use band_base::{Poll, Steps, Waker};
+use band_sem::{Acquire, Refusal, Semaphore, SemaphorePermit};
+use std::sync::ledger::Ledger;
 
 /// What a live name is.
 pub(crate) enum Thing {
@@ -10,4 +15,61 @@ pub(crate) enum Thing {
     Request { of: u64, request: Acquire },
     /// A permit that is held.
     Permit(SemaphorePermit),
+}
+
+impl Thing {
+    /// Polls the request that this is. Nothing else can be polled.
+    pub(crate) fn poll<L: Ledger>(
+        self,
+        objects: &mut Vec<Semaphore>,
+        waker: Waker,
+        steps: &mut Steps<L>,
+    ) -> (Thing, Reply)
+        requires { IsFit objects.old.items self }
+        ensures { PollsThing self waker.0 objects.old.items result.0 result.1 objects.new.items }
+    {
+        match self {
+            Thing::Object(place) => (Thing::Object(place), Reply::Refused(Refusal::Kind)),
+            Thing::Permit(permit) => (Thing::Permit(permit), Reply::Refused(Refusal::Finished)),
+            Thing::Request { of, mut request } => {
+                let semaphore = &mut objects[of as usize];
+                match request.poll_once(semaphore, waker, steps) {
+                    Ok(Poll::Ready(permit)) => {
+                        request.lose();
+                        (Thing::Permit(permit), Reply::Ready)
+                    }
+                    Ok(Poll::Pending) => (Thing::Request { of, request }, Reply::Pending),
+                    Err(_) => unreachable!(),
+                }
+            }
+        }
+    }
+
+    /// Lets go of the request or permit that this is. An object stays.
+    pub(crate) fn drop_from<L: Ledger>(self, objects: &mut Vec<Semaphore>, steps: &mut Steps<L>)
+        requires { IsFit objects.old.items self }
+        ensures { DropsThing self objects.old.items objects.new.items }
+    {
+        match self {
+            Thing::Object(_) => {}
+            Thing::Permit(permit) => {
+                let of = permit.of();
+                let semaphore = &mut objects[of as usize];
+                semaphore.drop_permit(permit, steps);
+            }
+            Thing::Request { of, request } => {
+                let semaphore = &mut objects[of as usize];
+                request.cancel(semaphore, steps);
+            }
+        }
+    }
+
+    /// Ends what this is and leaves it counted, for a table that ends too.
+    pub(crate) fn lose(self) {
+        match self {
+            Thing::Object(_) => {}
+            Thing::Permit(permit) => permit.lose(),
+            Thing::Request { of: _, request } => request.lose(),
+        }
+    }
 }

@@ -1,0 +1,78 @@
+-- What a poll and a drop of a thing make of the semaphores.
+use Rattle.std.specs.Prelude.{◌≡◌, ℕ, ◌-◌, ◌<◌, ◌≤◌, List, length, Option, Some, None, Result, Ok, Err, slice_get, slice_set}
+use Rattle.band_balance.specs.Line.{give_back}
+use Rattle.band_base.specs.declared.poll.Poll.{Poll}
+use Rattle.band_base.specs.declared.poll.Poll.TheVariants as polls
+use Rattle.band_base.specs.declared.poll.PollError.{PollError}
+use Rattle.band_sem.specs.declared.refusal.Refusal.TheVariants.{Kind, Finished}
+use Rattle.band_sem.specs.declared.acquire.Stage.{Stage}
+use Rattle.band_sem.specs.declared.acquire.Stage.TheVariants as stages
+use Rattle.band_sem.specs.Semaphore.{SemaphoreState, IsLawful, IsOwn, Polls, cancelled}
+use Rattle.band_sem.specs.Permit.{Permit}
+use Rattle.band_sem.specs.Request.{Request}
+use Rattle.band_play.specs.declared.reply.Reply.{Reply}
+use Rattle.band_play.specs.declared.reply.Reply.TheVariants as replies
+use Rattle.band_play.specs.declared.thing.Thing.{Thing}
+use Rattle.band_play.specs.declared.thing.Thing.TheVariants as things
+
+abbrev pub IsJoined : Stage → Type 0
+IsJoined stages.NotPolled = ⊥
+IsJoined (stages.Joined slot) = Unit {0}
+IsJoined stages.Finished = ⊥
+
+-- the request is in the line of the semaphore at its place
+abbrev pub FitsRequest : Option SemaphoreState → Request → Type 0
+FitsRequest None request = ⊥
+FitsRequest (Some sem) request = IsJoined request.stage × (request.of ≡ sem.number) × IsOwn request.stage request.size sem.line
+
+-- the permit is held of the semaphore at its place
+abbrev pub FitsPermit : Option SemaphoreState → Permit → Type 0
+FitsPermit None permit = ⊥
+FitsPermit (Some sem) permit = (permit.of ≡ sem.number) × (permit.count ≤ sem.held)
+
+-- the semaphores know the thing
+abbrev pub IsFit : List SemaphoreState → Thing → Type 0
+IsFit sems (things.Object place) = place < length sems
+IsFit sems (things.Request place request) = FitsRequest (slice_get sems place) request
+IsFit sems (things.Permit permit) = FitsPermit (slice_get sems permit.of) permit
+
+-- what the name is after a poll, and the reply
+abbrev pub IsAnswered : ℕ → Result (Poll Permit) PollError → Request → Thing → Reply → Type 0
+IsAnswered place (Ok (polls.Ready permit)) request thing reply = (thing ≡ things.Permit permit) × (reply ≡ replies.Ready)
+IsAnswered place (Ok polls.Pending) request thing reply = (thing ≡ things.Request place request) × (reply ≡ replies.Pending)
+IsAnswered place (Err error) request thing reply = ⊥
+
+-- a poll of the request by what its semaphore says
+pub record PollsRequest (place : ℕ) (request : Request) (waker : ℕ) (old : List SemaphoreState) (thing : Thing) (reply : Reply) (new : List SemaphoreState) : Type 0 where
+  pub before : SemaphoreState
+  pub after : SemaphoreState
+  pub result : Result (Poll Permit) PollError
+  pub left : Request
+  pub there : slice_get old place ≡ Some before
+  pub set : new ≡ slice_set old place after
+  pub lawful : IsLawful after.line after.held
+  pub polled : Polls request waker before result left after
+  pub answered : IsAnswered place result left thing reply
+
+abbrev pub PollsThing : Thing → ℕ → List SemaphoreState → Thing → Reply → List SemaphoreState → Type 0
+PollsThing (things.Object place) waker old thing reply new =
+    (thing ≡ things.Object place) × (reply ≡ replies.Refused Kind) × (new ≡ old)
+PollsThing (things.Permit permit) waker old thing reply new =
+    (thing ≡ things.Permit permit) × (reply ≡ replies.Refused Finished) × (new ≡ old)
+PollsThing (things.Request place request) waker old thing reply new = PollsRequest place request waker old thing reply new
+
+-- one semaphore becomes another
+pub record Becomes (place : ℕ) (old new : List SemaphoreState) (step : SemaphoreState → SemaphoreState) : Type 0 where
+  pub before : SemaphoreState
+  pub there : slice_get old place ≡ Some before
+  pub set : new ≡ slice_set old place (step before)
+  pub lawful : IsLawful (step before).line (step before).held
+
+-- a permit goes back
+abbrev pub given_back : ℕ → SemaphoreState → SemaphoreState
+given_back count sem = record sem { line = give_back count sem.line; held = sem.held - count }
+
+abbrev pub DropsThing : Thing → List SemaphoreState → List SemaphoreState → Type 0
+DropsThing (things.Object place) old new = new ≡ old
+DropsThing (things.Permit permit) old new = Becomes permit.of old new (given_back permit.count)
+DropsThing (things.Request place request) old new = Becomes place old new (cancelled request.stage)
