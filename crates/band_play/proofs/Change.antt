@@ -13,15 +13,11 @@ use Rattle.band_sem.specs.Permit.{Permit}
 use Rattle.band_sem.specs.declared.acquire.Stage.TheVariants.{Joined}
 use Rattle.band_play.specs.declared.thing.Thing.{Thing}
 use Rattle.band_play.specs.declared.thing.Thing.TheVariants as things
+use Rattle.band_play.specs.Names.{Updated}
 use Rattle.band_play.specs.State.{State, Named, Tag, is_tag, permit_tag}
 use Rattle.band_play.specs.Table.{StandsAt, StandsUnder, IsKnown, request_at, permit_at, quiet}
 use Rattle.band_play.proofs.Lists.{by_bool, also_at, at_set_same, at_set_other}
 use Rattle.band_play.proofs.Standing.{same_bytes, bytes_same}
-
--- the table afterwards has this at the name, and at every other name what it had
-pub record Updated (table table' : List ℕ → Option Thing) (m : List ℕ) (w : Option Thing) : Type 0 where
-  pub here : (n : List ℕ) → bytes_eq m n ≡ true → table' n ≡ w
-  pub others : (n : List ℕ) → bytes_eq m n ≡ false → table' n ≡ table n
 
 -- at which place a thing is
 abbrev pub place_of : Option Thing → Option ℕ

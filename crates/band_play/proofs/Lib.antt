@@ -6,3 +6,4 @@ pub mod Permits
 pub mod Requests
 pub mod Standing
 pub mod Turns
+pub mod Updates

@@ -21,7 +21,8 @@ use Rattle.band_play.specs.State.{State, Named, Tag, is_tag, permit_tag}
 use Rattle.band_play.specs.Table.{StandsAt, StandsUnder, IsKnown, request_at, permit_at, quiet}
 use Rattle.band_play.proofs.Lists.{by_bool, at_set_same, cond_true, cond_false, each_at_find, find_passes}
 use Rattle.band_play.proofs.Standing.{same_bytes, bytes_same}
-use Rattle.band_play.proofs.Change.{Updated, place_of, all_weaker, stays, Keeps}
+use Rattle.band_play.specs.Names.{Updated}
+use Rattle.band_play.proofs.Change.{place_of, all_weaker, stays, Keeps}
 use Rattle.band_play.proofs.Distinct.{others_stay, once_push, once_without}
 use Rattle.band_play.proofs.Turns.{TurnsTo, turns_to, with_object, quieted, quiet_line, slot_same, slots_one, tags_one, apart_on, tags_apart}
 

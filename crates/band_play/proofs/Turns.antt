@@ -22,7 +22,8 @@ use Rattle.band_play.specs.State.{State, Named, Tag, is_tag, permit_tag}
 use Rattle.band_play.specs.Table.{StandsAt, StandsUnder, IsKnown, request_at, permit_at, quiet}
 use Rattle.band_play.proofs.Lists.{by_bool, also_at, at_set_same, at_set_other, cond_true, cond_false, each_at_find, find_passes}
 use Rattle.band_play.proofs.Standing.{same_bytes, bytes_same}
-use Rattle.band_play.proofs.Change.{Updated, place_of, all_weaker, stays, stands_still, Keeps, stands_after}
+use Rattle.band_play.specs.Names.{Updated}
+use Rattle.band_play.proofs.Change.{place_of, all_weaker, stays, stands_still, Keeps, stands_after}
 use Rattle.band_play.proofs.Distinct.{names_of, MeansOne, others_stay, once_without, once_push}
 
 -- the object with this name afterwards

@@ -1,5 +1,6 @@
 pub mod Moves
 pub mod Name
+pub mod Names
 pub mod State
 pub mod Step
 pub mod Table

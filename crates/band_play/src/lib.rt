@@ -3,6 +3,7 @@
 
 mod call;
 mod name;
+mod names;
 mod reply;
 mod thing;
 
