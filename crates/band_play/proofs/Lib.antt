@@ -1,6 +1,7 @@
 pub mod Asking
 pub mod Change
 pub mod Distinct
+pub mod Follow
 pub mod Lists
 pub mod Permits
 pub mod Requests

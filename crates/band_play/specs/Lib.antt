@@ -1,3 +1,4 @@
+pub mod Kept
 pub mod Moves
 pub mod Name
 pub mod Names

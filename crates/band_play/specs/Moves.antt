@@ -4,7 +4,8 @@ use Rattle.band_balance.specs.Line.{give_back}
 use Rattle.band_base.specs.declared.poll.Poll.{Poll}
 use Rattle.band_base.specs.declared.poll.Poll.TheVariants as polls
 use Rattle.band_base.specs.declared.poll.PollError.{PollError}
-use Rattle.band_sem.specs.declared.refusal.Refusal.TheVariants.{Kind, Finished}
+use Rattle.band_sem.specs.declared.refusal.Refusal.{Refusal}
+use Rattle.band_sem.specs.declared.refusal.Refusal.TheVariants.{Unknown, Kind, Finished}
 use Rattle.band_sem.specs.declared.acquire.Stage.{Stage}
 use Rattle.band_sem.specs.declared.acquire.Stage.TheVariants as stages
 use Rattle.band_sem.specs.Semaphore.{SemaphoreState, IsLawful, IsOwn, Polls, cancelled}
@@ -76,3 +77,20 @@ abbrev pub DropsThing : Thing → List SemaphoreState → List SemaphoreState �
 DropsThing (things.Object place) old new = new ≡ old
 DropsThing (things.Permit permit) old new = Becomes permit.of old new (given_back permit.count)
 DropsThing (things.Request place request) old new = Becomes place old new (cancelled request.stage)
+
+-- the semaphore at a place has the place for its number
+abbrev pub IsNumbered : List SemaphoreState → ℕ → Type 0
+IsNumbered sems place = (sem : SemaphoreState) → slice_get sems place ≡ Some sem → sem.number ≡ place
+
+-- the place of an object, or why there is none
+abbrev pub object_of : Option Thing → Result ℕ Refusal
+object_of None = Err Unknown
+object_of (Some (things.Object place)) = Ok place
+object_of (Some (things.Request place request)) = Err Kind
+object_of (Some (things.Permit permit)) = Err Kind
+
+-- the place of the object that a thing is, or is of
+abbrev pub place_at : Thing → ℕ
+place_at (things.Object place) = place
+place_at (things.Request place request) = place
+place_at (things.Permit permit) = permit.of

@@ -5,6 +5,7 @@ mod call;
 mod name;
 mod names;
 mod reply;
+mod table;
 mod thing;
 
 pub use call::Call;
