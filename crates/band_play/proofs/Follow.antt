@@ -105,7 +105,7 @@ asking_refused (Some (things.Object p)) refusal made n waker state e = cc
 asking_refused (Some (things.Request p r)) refusal made n waker state e = let same : refusals.Kind ≡ refusal = cc in ap (λ r. refused r state) same
 asking_refused (Some (things.Permit p)) refusal made n waker state e = let same : refusals.Kind ≡ refusal = cc in ap (λ r. refused r state) same
 
-taken : (o : Option Thing) (thing : Thing) (outcome : Outcome) (state : State) → o ≡ Some thing → unless_taken (standing_of o) outcome state ≡ refused refusals.Taken state
+pub taken : (o : Option Thing) (thing : Thing) (outcome : Outcome) (state : State) → o ≡ Some thing → unless_taken (standing_of o) outcome state ≡ refused refusals.Taken state
 taken None thing outcome state e = absurd (none-some thing e)
 taken (Some (things.Object p)) thing outcome state e = refl
 taken (Some (things.Request p r)) thing outcome state e = refl
@@ -113,7 +113,7 @@ taken (Some (things.Permit p)) thing outcome state e = refl
 
 module _ (names : ℕ → ℕ → Tag) (table : List ℕ → Option Thing) (sems : List SemaphoreState) (state : State) (stands : StandsUnder names table sems state) where
   -- the standing of a name by the table's entry
-  stands_as : (name : List ℕ) (found : Option Thing) → table name ≡ found → standing name state ≡ standing_of found
+  pub stands_as : (name : List ℕ) (found : Option Thing) → table name ≡ found → standing name state ≡ standing_of found
   stands_as name found is = standing_is names table sems state stands name ∙ ap standing_of is
 
   pub ask_refused : (made of : List ℕ) (n waker : ℕ) (refusal : Refusal) → object_of (table of) ≡ Err refusal → asking (standing of state) made n waker state ≡ refused refusal state

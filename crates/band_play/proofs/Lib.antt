@@ -2,9 +2,15 @@ pub mod Asking
 pub mod Change
 pub mod Distinct
 pub mod Follow
+pub mod GrammarLemmas
+pub mod LineRows
 pub mod Lists
+pub mod Making
+pub mod NameLemmas
+pub mod NumberLemmas
 pub mod Permits
 pub mod Requests
 pub mod Standing
 pub mod Turns
 pub mod Updates
+pub mod WordLemmas

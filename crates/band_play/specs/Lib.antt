@@ -1,9 +1,15 @@
+pub mod Grammar
 pub mod Kept
+pub mod Left
 pub mod Moves
 pub mod Name
 pub mod Names
+pub mod Number
+pub mod Script
 pub mod State
 pub mod Step
 pub mod Table
+pub mod Text
+pub mod Words
 pub use Rattle.band_balance.specs.Line
 pub use Rattle.band_balance.specs.Object

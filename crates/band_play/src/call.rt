@@ -3,7 +3,7 @@
 use crate::Name;
 
 /// What a line asks for.
-#[derive(Drop)]
+#[derive(Debug, Drop, PartialEq, Eq)]
 pub enum Call {
     /// `sem S N`: makes a semaphore of `n` permits.
     Sem {

@@ -1,16 +1,18 @@
 //! The names of a script.
 ghost use Rattle.std.specs.Prelude.{◌≡◌, ℕ, ◌↔◌, List, Some, IsSome, IfSome, nat_eq, refl};
+ghost use Rattle.std.specs.List.{list_all};
 ghost use Rattle.std.specs.Ordering.{nat_cmp};
 ghost use Rattle.std.specs.Cmp.{partial_equiv_from_equiv};
 ghost use Rattle.std.specs.Cmp.Lexicographic.{pointwise, slice_cmp, nat_list_eq_equiv, nat_list_cmp_total, texts_po, texts_ties};
-ghost use Rattle.band_play.specs.Name.{IsName};
+ghost use Rattle.band_play.specs.Name.{is_name_byte, is_name, IsName, name_of};
 
+use crate::text::text_of;
 use arrayvec::ArrayString;
 use std::cmp::Ordering;
 use std::marker::Model;
 
 /// A name: one to thirty-two small letters, digits and underscores.
-#[derive(Drop)]
+#[derive(Debug, Drop)]
 pub struct Name {
     text: ArrayString<32>,
 }
@@ -27,6 +29,21 @@ impl Model for Name {
 }
 
 impl Name {
+    /// The name that a word is, if it is one.
+    #[tactic(auto, unfolding(crate::specs::Name::name_of))]
+    pub fn from_word(word: &[u8]) -> Option<Name>
+        ensures some { IfSome result (λ name. name ≡ word.now) }
+        ensures is_name { IsSome result ↔ IsName word.now }
+        ensures exact { result ≡ name_of word.now }
+    {
+        if !is_name(word) {
+            return None;
+        }
+        let mut text = ArrayString::new();
+        text.push_str(text_of(word));
+        Some(Name { text })
+    }
+
     /// The text of the name.
     pub fn as_str(&self) -> &str
         ensures text { result.now ≡ self.now }
@@ -41,6 +58,27 @@ impl Name {
     {
         Name { text: self.text }
     }
+}
+
+fn is_name(word: &[u8]) -> bool
+    ensures { result ≡ is_name word.now }
+{
+    match word.len() {
+        1..=32 => are_name_bytes(word),
+        _ => false,
+    }
+}
+
+fn are_name_bytes(word: &[u8]) -> bool
+    ensures { result ≡ list_all is_name_byte word.now }
+{
+    word.iter().all(|byte| is_name_byte(*byte))
+}
+
+fn is_name_byte(byte: u8) -> bool
+    ensures { result ≡ is_name_byte byte }
+{
+    matches!(byte, b'a'..=b'z' | b'0'..=b'9' | b'_')
 }
 
 impl PartialEq for Name {

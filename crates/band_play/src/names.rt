@@ -52,6 +52,25 @@ pub(crate) fn replace(names: &mut Names, name: &Name, thing: Thing) -> Option<Th
     }
 }
 
+/// Gives a live name its meaning.
+pub(crate) fn set(names: &mut Names, name: &Name, thing: Thing)
+    requires { IsSome (thing_at names.old name.now) }
+    ensures { Updated (thing_at names.old) (thing_at names.new) name.now (Some thing) }
+{
+    if let Some(before) = replace(names, name, thing) {
+        before.lose();
+    }
+}
+
+/// Ends a name, whatever it was.
+pub(crate) fn forget(names: &mut Names, name: &Name)
+    ensures { Updated (thing_at names.old) (thing_at names.new) name.now None }
+{
+    if let Some(thing) = remove(names, name) {
+        thing.lose();
+    }
+}
+
 /// Ends a name, and answers what it was.
 pub(crate) fn remove(names: &mut Names, name: &Name) -> Option<Thing>
     ensures before { result ≡ thing_at names.old name.now }

@@ -62,3 +62,118 @@ fn first_poll<L: Ledger>(
         }
     }
 }
+
+impl Table {
+    /// No name and no object.
+    pub(crate) fn new(alloc: Global) -> Table
+        ensures sound { IsSound result }
+        ensures start { StandsFor result [] }
+        ensures wakes { wakes_left result ≡ [] }
+    {
+        Table {
+            names: BTreeMap::new(alloc),
+            objects: Vec::new(alloc),
+            last: 0,
+        }
+    }
+
+    /// Makes a semaphore of `n` permits.
+    pub(crate) fn make_semaphore(
+        &mut self,
+        alloc: Global,
+        made: &Name,
+        n: u64,
+    ) -> Result<Reply, AllocError>
+        requires sound { IsSound self.old }
+        requires quiet { wakes_left self.old ≡ [] }
+        ensures follows { IfOk result (λ reply. Follows (making made.now (new_semaphore n)) self.old reply self.new) }
+        ensures err { OnErr result (Stays self.old self.new) }
+        ensures sound { IsSound self.new }
+    {
+        if names::is_live(&self.names, made) {
+            return Ok(Reply::Refused(Refusal::Taken));
+        }
+        let place = self.objects.len() as u64;
+        self.objects.reserve(1)?;
+        names::reserve(&mut self.names, made)?;
+        names::set(&mut self.names, made, Thing::Object(place));
+        self.objects.push(Semaphore::new(alloc, place, n)).unwrap();
+        Ok(Reply::Done)
+    }
+
+    /// Makes a request for `n` permits of a semaphore and polls it first.
+    pub(crate) fn ask<L: Ledger>(
+        &mut self,
+        made: &Name,
+        of: &Name,
+        n: u64,
+        waker: Waker,
+        steps: &mut Steps<L>,
+    ) -> Result<Reply, AllocError>
+        requires sound { IsSound self.old }
+        requires quiet { wakes_left self.old ≡ [] }
+        ensures follows { IfOk result (λ reply. Follows (λ state. asking (standing of.now state) made.now n waker.0 state) self.old reply self.new) }
+        ensures err { OnErr result (Stays self.old self.new) }
+        ensures sound { IsSound self.new }
+    {
+        let place = match object_at(&self.names, of) {
+            Ok(place) => place,
+            Err(refusal) => return Ok(Reply::Refused(refusal)),
+        };
+        if names::is_live(&self.names, made) {
+            return Ok(Reply::Refused(Refusal::Taken));
+        }
+        names::reserve(&mut self.names, made)?;
+        match first_poll(&mut self.objects, place, n, waker, steps) {
+            Ok((thing, reply)) => {
+                names::set(&mut self.names, made, thing);
+                self.last = place;
+                Ok(reply)
+            }
+            Err(error) => {
+                names::forget(&mut self.names, made);
+                Err(error)
+            }
+        }
+    }
+
+    /// Polls what a name is.
+    pub(crate) fn poll<L: Ledger>(
+        &mut self,
+        name: &Name,
+        waker: Waker,
+        steps: &mut Steps<L>,
+    ) -> Reply
+        requires sound { IsSound self.old }
+        requires quiet { wakes_left self.old ≡ [] }
+        ensures follows { Follows (λ state. polling (standing name.now state) name.now waker.0 state) self.old result self.new }
+        ensures sound { IsSound self.new }
+    {
+        let Some(thing) = names::replace(&mut self.names, name, Thing::Object(0)) else {
+            return Reply::Refused(Refusal::Unknown);
+        };
+        self.last = thing.place();
+        let (thing, reply) = thing.poll(&mut self.objects, waker, steps);
+        names::set(&mut self.names, name, thing);
+        reply
+    }
+
+    /// Lets go of the request or permit that a name is.
+    pub(crate) fn drop_name<L: Ledger>(&mut self, name: &Name, steps: &mut Steps<L>) -> Reply
+        requires sound { IsSound self.old }
+        requires quiet { wakes_left self.old ≡ [] }
+        ensures follows { Follows (λ state. dropping (standing name.now state) name.now state) self.old result self.new }
+        ensures sound { IsSound self.new }
+    {
+        match self.names.get(name) {
+            None => return Reply::Refused(Refusal::Unknown),
+            Some(Thing::Object(_)) => return Reply::Refused(Refusal::Kind),
+            Some(_) => {}
+        }
+        if let Some(thing) = names::remove(&mut self.names, name) {
+            self.last = thing.place();
+            thing.drop_from(&mut self.objects, steps);
+        }
+        Reply::Done
+    }
+}

@@ -1,6 +1,6 @@
 //! What a name stands for in the player's table.
 ghost use Rattle.std.specs.Prelude.{◌≡◌, ◌<◌, length};
-ghost use Rattle.band_play.specs.Moves.{IsFit, PollsThing, DropsThing};
+ghost use Rattle.band_play.specs.Moves.{IsFit, PollsThing, DropsThing, place_at};
 
 use crate::Reply;
 use band_base::{Poll, Steps, Waker};
@@ -61,6 +61,17 @@ impl Thing {
                 let semaphore = &mut objects[of as usize];
                 request.cancel(semaphore, steps);
             }
+        }
+    }
+
+    /// The place of the object that this is, or is of.
+    pub(crate) fn place(&self) -> u64
+        ensures { result ≡ place_at self.now }
+    {
+        match self {
+            Thing::Object(place) => *place,
+            Thing::Request { of, request: _ } => *of,
+            Thing::Permit(permit) => permit.of(),
         }
     }
 

@@ -1,0 +1,192 @@
+-- The decoder against the grammar.
+use Rattle.std.proofs.Common.{◌≡◌, ℕ, ◌^◌, ◌<◌, ◌≤◌, Bool, true, false, cond, List, [], ◌∷◌, length, Option, Some, None, IfSome, IfNone, refl, sym, ap, ◌∙◌, subst, lit<, arith, length-append}
+use Rattle.std.specs.Prelude.{codes}
+use Rattle.std.specs.Fmt.{decimal}
+use Rattle.std.specs.List.{join_with_byte}
+use Rattle.std.specs.Str.{bytes_eq}
+use Rattle.std.proofs.lemmas.Bool.{and_parts, leb-true}
+use Rattle.std.proofs.lemmas.Fmt.{length-decimal-le}
+use Rattle.std.proofs.lemmas.List.Splits.{join_with_byte-slice_split}
+use Rattle.std.proofs.lemmas.Option.{cond_some, same_Some, none-some}
+use Rattle.std.proofs.lemmas.Slice.Eq.{bytes_eq-Decides}
+use Rattle.band_play.specs.declared.call.Call.{Call}
+use Rattle.band_play.specs.declared.call.Call.TheVariants.{Sem, Ask, Poll, Drop}
+use Rattle.band_play.specs.Name.{IsName, is_name, name_of}
+use Rattle.band_play.specs.Number.{number_of}
+use Rattle.band_play.specs.Words.{words_of, word_at, name_at, number_at, end_with, ◌>>=◌}
+use Rattle.band_play.specs.Grammar.{IsForm, IsLine, sem_of, ask_of, poll_of, drop_of, form_of, call_of}
+use Rattle.band_play.proofs.NumberLemmas.{number_of-decimal, decimal-number_of}
+
+-- a step that gave something, and what the next made of it
+bind_some : {A B : Type 0} (o : Option A) (f : A → Option B) (y : B) → (o >>= f) ≡ Some y → (x : A) × (o ≡ Some x) × (f x ≡ Some y)
+bind_some None f y e = cc
+bind_some (Some x) f y e = (x, refl, e)
+
+-- the readers take what they give
+name_at_takes : (words : List (List ℕ)) (read : List ℕ × List (List ℕ)) → name_at words ≡ Some read → IsName read.0 × (words ≡ read.0 ∷ read.1)
+unfolding name_at name_of
+name_at_takes [] read e = cc
+name_at_takes (word ∷ words) read e =
+    let name = bind_some (name_of word) _ read e in
+    let is = cond_some (is_name word) word name.0 name.1 in
+    let same : ◌≡◌ {A = List ℕ × List (List ℕ)} (word, words) read = ap (λ x. (x, words)) is.1 ∙ same_Some _ _ name.2 in
+    subst (λ (x : List ℕ × List (List ℕ)). IsName x.0 × (word ∷ words ≡ x.0 ∷ x.1)) same (is.0, refl)
+
+number_at_takes : (words : List (List ℕ)) (read : ℕ × List (List ℕ)) → number_at words ≡ Some read → (read.0 < 2 ^ 64) × (words ≡ decimal read.0 ∷ read.1)
+unfolding number_at
+number_at_takes [] read e = cc
+number_at_takes (word ∷ words) read e =
+    let number = bind_some (number_of word) _ read e in
+    let is = decimal-number_of word number.0 number.1 in
+    subst (λ (x : ℕ × List (List ℕ)). (x.0 < 2 ^ 64) × (word ∷ words ≡ decimal x.0 ∷ x.1)) (same_Some _ _ number.2) (is.1, ap (λ w. w ∷ words) is.0)
+
+end_takes : (words : List (List ℕ)) (read call : Call) → end_with words read ≡ Some call → (words ≡ []) × (read ≡ call)
+end_takes [] read call e = (refl, same_Some _ _ e)
+end_takes (word ∷ words) read call e = cc
+
+-- and give it again
+name_at_again : (name : List ℕ) (words : List (List ℕ)) → IsName name → name_at (name ∷ words) ≡ Some (name, words)
+unfolding name_at name_of
+name_at_again name words is = rw is refl
+
+number_at_again : (n : ℕ) (words : List (List ℕ)) → n < 2 ^ 64 → number_at (decimal n ∷ words) ≡ Some (n, words)
+unfolding number_at
+number_at_again n words fits = rw (number_of-decimal n fits) refl
+
+-- what a reader of a form takes behind its word is in the grammar
+abbrev Takes : List ℕ → (List (List ℕ) → Option Call) → Type 0
+Takes word read = (words : List (List ℕ)) (call : Call) → read words ≡ Some call → IsForm (word ∷ words) call
+
+sem_takes : (words : List (List ℕ)) (call : Call) → sem_of words ≡ Some call → IsForm (codes "sem" ∷ words) call
+unfolding sem_of
+sem_takes words call e =
+    let made = bind_some (name_at words) _ call e in
+    let n = bind_some (number_at made.0.1) _ call made.2 in
+    let ended = end_takes n.0.1 (Sem made.0.0 n.0.0) call n.2 in
+    let made_is = name_at_takes words made.0 made.1 in
+    let n_is = number_at_takes made.0.1 n.0 n.1 in
+    rw (← ended.1) (made_is.0, n_is.0, cc)
+
+sem_again : (made : List ℕ) (n : ℕ) → IsName made → n < 2 ^ 64 → sem_of (made ∷ decimal n ∷ []) ≡ Some (Sem made n)
+unfolding sem_of
+sem_again made n is_name fits = rw (name_at_again made _ is_name, number_at_again n _ fits) refl
+
+ask_takes : (words : List (List ℕ)) (call : Call) → ask_of words ≡ Some call → IsForm (codes "ask" ∷ words) call
+unfolding ask_of
+ask_takes words call e =
+    let made = bind_some (name_at words) _ call e in
+    let of = bind_some (name_at made.0.1) _ call made.2 in
+    let n = bind_some (number_at of.0.1) _ call of.2 in
+    let waker = bind_some (number_at n.0.1) _ call n.2 in
+    let ended = end_takes waker.0.1 (Ask made.0.0 of.0.0 n.0.0 waker.0.0) call waker.2 in
+    let made_is = name_at_takes words made.0 made.1 in
+    let of_is = name_at_takes made.0.1 of.0 of.1 in
+    let n_is = number_at_takes of.0.1 n.0 n.1 in
+    let waker_is = number_at_takes n.0.1 waker.0 waker.1 in
+    rw (← ended.1) (made_is.0, of_is.0, n_is.0, waker_is.0, cc)
+
+ask_again : (made of : List ℕ) (n waker : ℕ) → IsName made → IsName of → n < 2 ^ 64 → waker < 2 ^ 64
+    → ask_of (made ∷ of ∷ decimal n ∷ decimal waker ∷ []) ≡ Some (Ask made of n waker)
+unfolding ask_of
+ask_again made of n waker made_is of_is n_fits waker_fits =
+    rw (name_at_again made _ made_is, name_at_again of _ of_is, number_at_again n _ n_fits, number_at_again waker _ waker_fits) refl
+
+poll_takes : (words : List (List ℕ)) (call : Call) → poll_of words ≡ Some call → IsForm (codes "poll" ∷ words) call
+unfolding poll_of
+poll_takes words call e =
+    let name = bind_some (name_at words) _ call e in
+    let waker = bind_some (number_at name.0.1) _ call name.2 in
+    let ended = end_takes waker.0.1 (Poll name.0.0 waker.0.0) call waker.2 in
+    let name_is = name_at_takes words name.0 name.1 in
+    let waker_is = number_at_takes name.0.1 waker.0 waker.1 in
+    rw (← ended.1) (name_is.0, waker_is.0, cc)
+
+poll_again : (name : List ℕ) (waker : ℕ) → IsName name → waker < 2 ^ 64 → poll_of (name ∷ decimal waker ∷ []) ≡ Some (Poll name waker)
+unfolding poll_of
+poll_again name waker name_is waker_fits = rw (name_at_again name _ name_is, number_at_again waker _ waker_fits) refl
+
+drop_takes : (words : List (List ℕ)) (call : Call) → drop_of words ≡ Some call → IsForm (codes "drop" ∷ words) call
+unfolding drop_of
+drop_takes words call e =
+    let name = bind_some (name_at words) _ call e in
+    let ended = end_takes name.0.1 (Drop name.0.0) call name.2 in
+    let name_is = name_at_takes words name.0 name.1 in
+    rw (← ended.1) (name_is.0, cc)
+
+drop_again : (name : List ℕ) → IsName name → drop_of (name ∷ []) ≡ Some (Drop name)
+unfolding drop_of
+drop_again name name_is = rw (name_at_again name _ name_is) refl
+
+-- the first word has the form read that it names
+chosen : (word form : List ℕ) (words : List (List ℕ)) (call : Call) (read : List (List ℕ) → Option Call) (others : Option Call) → Takes word read
+    → (others ≡ Some call → IsForm (form ∷ words) call) → cond (bytes_eq form word) (read words) others ≡ Some call → IsForm (form ∷ words) call
+chosen word form words call read others takes rest e = by_test (bytes_eq form word) refl e
+  where
+    by_test : (b : Bool) → bytes_eq form word ≡ b → cond b (read words) others ≡ Some call → IsForm (form ∷ words) call
+    by_test true is found = rw ((bytes_eq-Decides form word).0 is) (takes words call found)
+    by_test false is found = rest found
+
+form_takes : (form : List ℕ) (words : List (List ℕ)) (call : Call) → form_of form words ≡ Some call → IsForm (form ∷ words) call
+unfolding form_of
+form_takes form words call =
+    chosen (codes "sem") form words call sem_of _ sem_takes (
+    chosen (codes "ask") form words call ask_of _ ask_takes (
+    chosen (codes "poll") form words call poll_of _ poll_takes (
+    chosen (codes "drop") form words call drop_of _ drop_takes (
+    λ none. cc))))
+
+words_take : (words : List (List ℕ)) (call : Call) → (word_at words >>= (λ form. form_of form.0 form.1)) ≡ Some call → IsForm words call
+words_take [] call e = cc
+words_take (form ∷ words) call e = form_takes form words call e
+
+words_again : (words : List (List ℕ)) (call : Call) → IsForm words call → (word_at words >>= (λ form. form_of form.0 form.1)) ≡ Some call
+unfolding form_of
+words_again words (Sem made n) is = rw is.2 (sem_again made n is.0 is.1)
+words_again words (Ask made of n waker) is = rw is.4 (ask_again made of n waker is.0 is.1 is.2 is.3)
+words_again words (Poll name waker) is = rw is.2 (poll_again name waker is.0 is.1)
+words_again words (Drop name) is = rw is.1 (drop_again name is.0)
+
+-- a call is read only of a line that stands for it, and of each such line
+pub line_takes : (line : List ℕ) (call : Call) → call_of line ≡ Some call → IsLine line call
+unfolding call_of
+line_takes line call e = words_take (words_of line) call e
+
+pub line_again : (line : List ℕ) (call : Call) → IsLine line call → call_of line ≡ Some call
+unfolding call_of
+line_again line call is = words_again (words_of line) call is
+
+pub some_call : (line : List ℕ) (read : Option Call) → read ≡ call_of line → IfSome read (λ call. IsLine line call)
+some_call line None e = tt
+some_call line (Some call) e = line_takes line call (sym e)
+
+pub no_call : (line : List ℕ) (read : Option Call) → read ≡ call_of line → IfNone read ((call : Call) → IsLine line call → ⊥)
+no_call line None e = λ call is. none-some call (e ∙ line_again line call is)
+no_call line (Some call) e = tt
+
+-- no line has two calls
+pub one_call_of_line : (line : List ℕ) (a b : Call) → IsLine line a → IsLine line b → a ≡ b
+one_call_of_line line a b a_is b_is = same_Some a b (sym (line_again line a a_is) ∙ line_again line b b_is)
+
+-- how long a line can be
+length_from_words : (line : List ℕ) (words : List (List ℕ)) → words_of line ≡ words → length line ≡ length (join_with_byte 32 words)
+length_from_words line words is = ap length (sym (join_with_byte-slice_split 32 line)) ∙ ap (λ w. length (join_with_byte 32 w)) is
+
+length_of_name : (name : List ℕ) → IsName name → length name ≤ 32
+length_of_name name is = leb-true _ _ (and_parts _ _ (and_parts _ _ is).0).1
+
+length_of_number : (n : ℕ) → n < 2 ^ 64 → length (decimal n) ≤ 20
+length_of_number n fits = length-decimal-le 20 n (lit< tt) (omega (arith, fits)) fits
+
+pub longest_call_line : (line : List ℕ) (call : Call) → IsLine line call → length line ≤ 111
+longest_call_line line (Sem made n) is =
+    let whole = length_from_words line _ is.2 in
+    omega (arith, simp length-append at whole, length_of_name made is.0, length_of_number n is.1)
+longest_call_line line (Ask made of n waker) is =
+    let whole = length_from_words line _ is.4 in
+    omega (arith, simp length-append at whole, length_of_name made is.0, length_of_name of is.1, length_of_number n is.2, length_of_number waker is.3)
+longest_call_line line (Poll name waker) is =
+    let whole = length_from_words line _ is.2 in
+    omega (arith, simp length-append at whole, length_of_name name is.0, length_of_number waker is.1)
+longest_call_line line (Drop name) is =
+    let whole = length_from_words line _ is.1 in
+    omega (arith, simp length-append at whole, length_of_name name is.0)

@@ -1,0 +1,133 @@
+-- A new object in the table.
+use Rattle.std.proofs.Common.{◌≡◌, ◌≢◌, ℕ, ◌+◌, ◌-◌, ◌^◌, ◌<◌, ◌≤◌, zero, suc, Bool, true, false, cond, List, [], ◌∷◌, ◌++◌, map, Option, Some, None, ◌⊎◌, inl, inr, refl, sym, ap, ap₂, ◌∙◌, subst, arith, length, length-append, ℤ, pos, neg_ℤ, ◌+ℤ◌, ◌≤ℤ◌, nat_eq}
+use Rattle.std.specs.List.{AllByRecursion, slice_get, IsDistinct}
+use Rattle.std.specs.Str.{bytes_eq}
+use Rattle.std.proofs.lemmas.Int.{ints}
+use Rattle.std.proofs.lemmas.Option.{none-some, same_Some, slice_get_within}
+use Rattle.band_balance.specs.Line.{Entry, Line, open_line, requests, total}
+use Rattle.band_balance.specs.Object.{Object, new_semaphore, u64_max}
+use Rattle.band_sem.specs.Semaphore.{SemaphoreState, IsLawful}
+use Rattle.band_sem.specs.declared.refusal.Refusal.TheVariants as refusals
+use Rattle.band_play.specs.declared.reply.Reply.{Reply}
+use Rattle.band_play.specs.declared.reply.Reply.TheVariants as replies
+use Rattle.band_play.specs.declared.thing.Thing.{Thing}
+use Rattle.band_play.specs.declared.thing.Thing.TheVariants as things
+use Rattle.band_play.specs.Names.{Updated}
+use Rattle.band_play.specs.State.{State, Named, Tag, standing}
+use Rattle.band_play.specs.Step.{Outcome, refused, unless_taken, making}
+use Rattle.band_play.specs.Table.{StandsAt, StandsUnder, Stands, IsKnown}
+use Rattle.band_play.specs.Kept.{wakes_of, OthersQuiet}
+use Rattle.band_play.proofs.Lists.{by_bool}
+use Rattle.band_play.proofs.Standing.{standing_is, standing_of, same_bytes, bytes_same}
+use Rattle.band_play.proofs.Change.{stands_still, place_of}
+use Rattle.band_play.proofs.Follow.{Matches, refused_follows, stands_as, taken, quiet_at}
+
+-- what stands in a list with one more at its end
+pub at_push : {A : Type 0} (xs : List A) (x : A) (k : ℕ) (y : A) → slice_get (xs ++ x ∷ []) k ≡ Some y → (slice_get xs k ≡ Some y) ⊎ ((k ≡ length xs) × (x ≡ y))
+at_push [] x zero y there = inr (refl, same_Some x y there)
+at_push [] x (suc k) y there = absurd (none-some y there)
+at_push (z ∷ zs) x zero y there = inl there
+at_push (z ∷ zs) x (suc k) y there = one_on (at_push zs x k y there)
+  where
+    one_on : (slice_get zs k ≡ Some y) ⊎ ((k ≡ length zs) × (x ≡ y)) → (slice_get zs k ≡ Some y) ⊎ ((suc k ≡ length (z ∷ zs)) × (x ≡ y))
+    one_on (inl e) = inl e
+    one_on (inr (e, f)) = inr (ap suc e, f)
+
+pub at_front : {A : Type 0} (xs : List A) (x : A) (k : ℕ) (y : A) → slice_get xs k ≡ Some y → slice_get (xs ++ x ∷ []) k ≡ Some y
+at_front [] x k y there = absurd (none-some y there)
+at_front (z ∷ zs) x zero y there = there
+at_front (z ∷ zs) x (suc k) y there = at_front zs x k y there
+
+pub at_end : {A : Type 0} (xs : List A) (x : A) → slice_get (xs ++ x ∷ []) (length xs) ≡ Some x
+at_end [] x = refl
+at_end (z ∷ zs) x = at_end zs x
+
+pub nothing_twice : {N : Type 0} (same : N → N → Bool) → IsDistinct same []
+unfolding IsDistinct
+nothing_twice same = tt
+
+pub lawful_start : (n : ℕ) → n < 2 ^ 64 → IsLawful (open_line n) 0
+lawful_start n fits = record {
+  one_each = nothing_twice nat_eq;
+  head_waits = tt;
+  in_hand = omega arith;
+  in_all = omega (arith, ints);
+  owed = omega (arith, ints);
+}
+
+-- a semaphore of n at a place
+abbrev pub fresh : ℕ → ℕ → SemaphoreState
+fresh place n = record { number = place; line = open_line n; held = 0 }
+
+module _ (names : ℕ → ℕ → Tag) (table : List ℕ → Option Thing) (sems : List SemaphoreState) (state : State) (stands : StandsUnder names table sems state) where
+  module _ (table' : List ℕ → Option Thing) (made : List ℕ) (n : ℕ) (fits : n < 2 ^ 64) (absent : table made ≡ None)
+      (update : Updated table table' made (Some (things.Object (length sems)))) where
+    abbrev new : SemaphoreState
+    new = fresh (length sems) n
+
+    abbrev named : Named
+    named = record { name = made; object = new_semaphore n }
+
+    each_there : (place : ℕ) (s : SemaphoreState) (o : Named) → (slice_get sems place ≡ Some s) ⊎ ((place ≡ length sems) × (new ≡ s)) → (slice_get state place ≡ Some o) ⊎ ((place ≡ length state) × (named ≡ o)) → StandsAt table' (names place) place s o
+    each_there place s o (inl at_sem) (inl at_named) =
+        stands_still update (names place) place s o (λ e. none-some place (sym (ap place_of absent) ∙ e)) (stands.each place s o at_sem at_named)
+    each_there place s o (inl at_sem) (inr (last, is)) =
+        absurd (omega (arith, slice_get_within sems place s at_sem, stands.size))
+    each_there place s o (inr (last, is)) (inl at_named) =
+        absurd (omega (arith, slice_get_within state place o at_named, stands.size))
+    each_there place s o (inr (last_sem, sem_is)) (inr (last, named_is)) =
+        subst (λ (x : SemaphoreState). StandsAt table' (names place) place x o) sem_is
+          (subst (λ (x : Named). StandsAt table' (names place) place new x) named_is
+            (record {
+              known = update.here made (bytes_same made made refl) ∙ ap (λ k. Some (things.Object k)) (sym last_sem);
+              kind = refl;
+              number = sym last_sem;
+              line = refl;
+              held = refl;
+              lawful = lawful_start n fits;
+              each_request = tt;
+              each_held = tt;
+              held_once = nothing_twice (λ (a b : Tag). bytes_eq a.name b.name);
+            }))
+
+    still_known : (name : List ℕ) (found : Option Thing) → IsKnown names sems state name found → IsKnown names (sems ++ new ∷ []) (state ++ named ∷ []) name found
+    still_known name None known = tt
+    still_known name (Some (things.Object place)) (o, there, called) = (o, at_front state named place o there, called)
+    still_known name (Some (things.Request place request)) (s, slot, there, is, found, called) = (s, slot, at_front sems new place s there, is, found, called)
+    still_known name (Some (things.Permit permit)) (o, there, found) = (o, at_front state named permit.of o there, found)
+
+    stands_made : StandsUnder names table' (sems ++ new ∷ []) (state ++ named ∷ [])
+    stands_made = record {
+      size = omega (arith, length-append sems (new ∷ []), length-append state (named ∷ []), stands.size);
+      each = λ place s o at_sem at_named. each_there place s o (at_push sems new place s at_sem) (at_push state named place o at_named);
+      every = λ name. by_bool (bytes_eq made name)
+        (λ same. subst (λ (o : Option Thing). IsKnown names (sems ++ new ∷ []) (state ++ named ∷ []) name o) (sym (update.here name same))
+          (named, ap (slice_get (state ++ named ∷ [])) stands.size ∙ at_end state named, same_bytes made name same))
+        (λ other. subst (λ (o : Option Thing). IsKnown names (sems ++ new ∷ []) (state ++ named ∷ []) name o) (sym (update.others name other))
+          (still_known name (table name) (stands.every name)));
+    }
+
+    pub make_follows : (last : ℕ) → wakes_of (slice_get (sems ++ new ∷ []) last) ≡ [] → Matches (making made (new_semaphore n) state) replies.Done table' last (sems ++ new ∷ [])
+    make_follows last none =
+        let is : making made (new_semaphore n) state ≡ record { reply = replies.Done; woken = []; state = state ++ named ∷ [] } =
+            ap (λ s. unless_taken s (record { reply = replies.Done; woken = []; state = state ++ named ∷ [] }) state) (stands_as names table sems state stands made None absent) in
+        (ap (λ (o : Outcome). o.reply) (sym is),
+         none ∙ ap (λ (o : Outcome). o.woken) (sym is),
+         (names, subst (λ (s : State). StandsUnder names table' (sems ++ new ∷ []) s) (ap (λ (o : Outcome). o.state) (sym is)) stands_made))
+
+  abbrev made_outcome : List ℕ → ℕ → Outcome
+  made_outcome made n = record { reply = replies.Done; woken = []; state = state ++ record { name = made; object = new_semaphore n } ∷ [] }
+
+  pub make_taken : (made : List ℕ) (n last : ℕ) (thing : Thing) → ((k : ℕ) (s : SemaphoreState) → slice_get sems k ≡ Some s → s.line.wakes ≡ []) → table made ≡ Some thing
+      → Matches (making made (new_semaphore n) state) (replies.Refused refusals.Taken) table last sems
+  make_taken made n last thing quiet live =
+      refused_follows names table sems state last _ refusals.Taken stands (quiet_at names table sems state stands quiet last)
+        (ap (λ s. unless_taken s (made_outcome made n) state) (stands_as names table sems state stands made (table made) refl) ∙ taken (table made) thing (made_outcome made n) state live)
+
+-- with a new semaphore at the end nobody has wakers to take
+pub quiet_push : (sems : List SemaphoreState) (place n : ℕ) → ((k : ℕ) (s : SemaphoreState) → slice_get sems k ≡ Some s → s.line.wakes ≡ []) → (k : ℕ) (s : SemaphoreState) → slice_get (sems ++ fresh place n ∷ []) k ≡ Some s → s.line.wakes ≡ []
+quiet_push sems place n quiet k s there = either (at_push sems (fresh place n) k s there)
+  where
+    either : (slice_get sems k ≡ Some s) ⊎ ((k ≡ length sems) × (fresh place n ≡ s)) → s.line.wakes ≡ []
+    either (inl e) = quiet k s e
+    either (inr (last, is)) = ap (λ (x : SemaphoreState). x.line.wakes) (sym is)

@@ -1,0 +1,90 @@
+//! The reading of a line.
+ghost use Rattle.std.specs.Prelude.{◌≡◌, ◌≤◌, List, ℕ, length, IfSome, IfNone};
+ghost use Rattle.band_play.specs.declared.call.Call.{Call as TheCall};
+ghost use Rattle.band_play.specs.Left.{words_left};
+ghost use Rattle.band_play.specs.Grammar.{IsLine, call_of, form_of, sem_of, ask_of, poll_of, drop_of};
+
+use crate::Call;
+use crate::words::Words;
+
+/// The call that a line stands for, if it stands for one.
+pub fn parse_line(line: &[u8]) -> Option<Call>
+    ensures exact { result ≡ call_of line.now }
+    ensures some { IfSome result (λ call. IsLine line.now call) }
+    ensures none { IfNone result ((call : TheCall) → IsLine line.now call → ⊥) }
+{
+    read_line(line)
+}
+
+#[tactic(auto, unfolding(crate::specs::Grammar::call_of))]
+fn read_line(line: &[u8]) -> Option<Call>
+    ensures { result ≡ call_of line.now }
+{
+    let mut words = Words::new(line);
+    let form = words.word()?;
+    parse_form(form, &mut words)
+}
+
+#[tactic(auto, unfolding(crate::specs::Grammar::form_of))]
+fn parse_form(form: &[u8], words: &mut Words) -> Option<Call>
+    ensures { result ≡ form_of form.now (words_left words.old) }
+{
+    if form == b"sem".as_slice() {
+        parse_sem(words)
+    } else if form == b"ask".as_slice() {
+        parse_ask(words)
+    } else if form == b"poll".as_slice() {
+        parse_poll(words)
+    } else if form == b"drop".as_slice() {
+        parse_drop(words)
+    } else {
+        None
+    }
+}
+
+#[tactic(auto, unfolding(crate::specs::Grammar::sem_of))]
+fn parse_sem(words: &mut Words) -> Option<Call>
+    ensures { result ≡ sem_of (words_left words.old) }
+{
+    let made = words.name()?;
+    let n = words.number()?;
+    words.end_with(Call::Sem { made, n })
+}
+
+#[tactic(auto, unfolding(crate::specs::Grammar::ask_of))]
+fn parse_ask(words: &mut Words) -> Option<Call>
+    ensures { result ≡ ask_of (words_left words.old) }
+{
+    let made = words.name()?;
+    let of = words.name()?;
+    let n = words.number()?;
+    let waker = words.number()?;
+    words.end_with(Call::Ask { made, of, n, waker })
+}
+
+#[tactic(auto, unfolding(crate::specs::Grammar::poll_of))]
+fn parse_poll(words: &mut Words) -> Option<Call>
+    ensures { result ≡ poll_of (words_left words.old) }
+{
+    let name = words.name()?;
+    let waker = words.number()?;
+    words.end_with(Call::Poll { name, waker })
+}
+
+#[tactic(auto, unfolding(crate::specs::Grammar::drop_of))]
+fn parse_drop(words: &mut Words) -> Option<Call>
+    ensures { result ≡ drop_of (words_left words.old) }
+{
+    let name = words.name()?;
+    words.end_with(Call::Drop { name })
+}
+
+/// No line stands for two calls.
+pub fn one_call()
+    ensures { (line : List ℕ) (a b : TheCall) → IsLine line a → IsLine line b → a ≡ b }
+{}
+
+/// A line that stands for a call has at most 111 bytes.
+pub fn longest_line()
+    ensures { (line : List ℕ) (call : TheCall) → IsLine line call → length line ≤ 111 }
+{}

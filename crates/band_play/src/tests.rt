@@ -1,0 +1,106 @@
+//! Lines with the calls that they stand for, written by hand.
+
+use crate::{Call, Name, parse_line};
+use std::collections::BTreeMap;
+use std::process::Abort;
+use std::test::Fail;
+
+fn name(rt: &impl Abort, text: &str) -> Name {
+    Name::from_word(text.as_bytes()).expect(rt, "a name")
+}
+
+#[test]
+fn reads_each_form(rt: HostRuntime) {
+    let longest =
+        "ask aaaaaaaabbbbbbbbccccccccdddddddd eeeeeeeeffffffffgggggggghhhhhhhh 18446744073709551615 10000000000000000000";
+    let table = [
+        (
+            "sem sem 0",
+            Call::Sem {
+                made: name(&rt, "sem"),
+                n: 0,
+            },
+        ),
+        (
+            "ask a s_1 2 7",
+            Call::Ask {
+                made: name(&rt, "a"),
+                of: name(&rt, "s_1"),
+                n: 2,
+                waker: 7,
+            },
+        ),
+        (
+            longest,
+            Call::Ask {
+                made: name(&rt, "aaaaaaaabbbbbbbbccccccccdddddddd"),
+                of: name(&rt, "eeeeeeeeffffffffgggggggghhhhhhhh"),
+                n: 18446744073709551615,
+                waker: 10000000000000000000,
+            },
+        ),
+        (
+            "poll 0a 9",
+            Call::Poll {
+                name: name(&rt, "0a"),
+                waker: 9,
+            },
+        ),
+        (
+            "drop _",
+            Call::Drop {
+                name: name(&rt, "_"),
+            },
+        ),
+    ];
+    for (line, call) in table {
+        assert_eq!(rt; parse_line(line.as_bytes()), Some(call), "at {line}");
+    }
+}
+
+#[test]
+fn reads_no_other_line(rt: HostRuntime) {
+    let lines = [
+        "",
+        " ",
+        "sem",
+        "sem s",
+        "sem s ",
+        "sem  s 1",
+        " sem s 1",
+        "sem s 1 ",
+        "sem s 01",
+        "sem s +1",
+        "sem s -1",
+        "sem s 1a",
+        "sem s 18446744073709551616",
+        "sem S 1",
+        "sem s-t 1",
+        "sem s 1 2",
+        "semi s 1",
+        "Drop s",
+        "drop s s",
+        "drop s\r",
+        "drop é",
+        "drop aaaaaaaabbbbbbbbccccccccdddddddde",
+        "poll a",
+        "ask a s 1",
+        "ask a s x 1",
+    ];
+    for line in lines {
+        assert_eq!(rt; parse_line(line.as_bytes()), None, "at {line}");
+    }
+}
+
+#[test]
+fn finds_by_name(rt: HostRuntime) -> Result<(), Fail> {
+    let mut numbers = BTreeMap::new(rt.alloc());
+    for (text, number) in [("b", 1), ("a_", 2), ("a", 3), ("0", 4)] {
+        numbers.insert(name(&rt, text), number)?;
+    }
+    assert_eq!(rt; numbers.get(&name(&rt, "a")).copied(), Some(3));
+    assert_eq!(rt; numbers.get(&name(&rt, "c")).copied(), None);
+    let first = numbers.keys().next().ok_or("no name")?;
+    assert_eq!(rt; first.as_str(), "0");
+    Ok(())
+}
