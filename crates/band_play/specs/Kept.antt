@@ -35,6 +35,10 @@ Follows call old reply new =
     (state : State) → StandsFor old state →
     (reply ≡ (call state).reply) × (wakes_left new ≡ (call state).woken) × StandsFor new (call state).state
 
--- every state that was stood for still is, and the wakers to take are the same
+-- every state that was stood for still is
+abbrev pub Remains : Table → Table → Type 0
+Remains old new = (state : State) → StandsFor old state → StandsFor new state
+
+-- the same, and the wakers to take are the same
 abbrev pub Stays : Table → Table → Type 0
-Stays old new = ((state : State) → StandsFor old state → StandsFor new state) × (wakes_left new ≡ wakes_left old)
+Stays old new = Remains old new × (wakes_left new ≡ wakes_left old)

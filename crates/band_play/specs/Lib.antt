@@ -5,6 +5,7 @@ pub mod Moves
 pub mod Name
 pub mod Names
 pub mod Number
+pub mod Player
 pub mod Script
 pub mod State
 pub mod Step

@@ -6,6 +6,7 @@ mod grammar;
 mod name;
 mod names;
 mod number;
+mod player;
 mod reply;
 mod table;
 mod text;
@@ -15,6 +16,7 @@ mod words;
 pub use call::Call;
 pub use grammar::{longest_line, one_call, parse_line};
 pub use name::Name;
+pub use player::Player;
 pub use reply::Reply;
 
 #[cfg(test)]

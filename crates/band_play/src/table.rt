@@ -6,7 +6,7 @@ ghost use Rattle.band_play.specs.Step.{making, asking, polling, dropping};
 ghost use Rattle.band_play.specs.State.{standing};
 ghost use Rattle.band_play.specs.Names.{thing_at};
 ghost use Rattle.band_play.specs.Moves.{PollsRequest, IsNumbered, object_of};
-ghost use Rattle.band_play.specs.Kept.{StandsFor, IsSound, Follows, Stays, wakes_left};
+ghost use Rattle.band_play.specs.Kept.{StandsFor, IsSound, Follows, Stays, Remains, wakes_left};
 
 use crate::names::{self, Names};
 use crate::thing::Thing;
@@ -175,5 +175,35 @@ impl Table {
             thing.drop_from(&mut self.objects, steps);
         }
         Reply::Done
+    }
+
+    /// Takes the oldest waker to wake of the object that was called last.
+    pub(crate) fn take_wake(&mut self) -> Option<Waker>
+        requires { IsSound self.old }
+        ensures woken { MatchOption result
+            ((wakes_left self.old ≡ []) × (wakes_left self.new ≡ []))
+            (λ waker. wakes_left self.old ≡ waker.0 ∷ wakes_left self.new) }
+        ensures state { Remains self.old self.new }
+        ensures sound { IsSound self.new }
+    {
+        let last = self.last as usize;
+        if last < self.objects.len() {
+            let semaphore = &mut self.objects[last];
+            return semaphore.take_wake();
+        }
+        None
+    }
+
+    /// Loses every token.
+    pub(crate) fn lose(self) {
+        let Table {
+            mut names,
+            objects: _,
+            last: _,
+        } = self;
+        while let Some((_, thing)) = names.pop_first() {
+            thing.lose();
+        }
+        names.destroy_empty();
     }
 }

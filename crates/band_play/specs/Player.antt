@@ -1,0 +1,25 @@
+-- What contracts say of a player.
+use Rattle.std.specs.Prelude.{◌≡◌, ℕ, List}
+use Rattle.band_play.specs.declared.player.Player.{Player}
+use Rattle.band_play.specs.declared.reply.Reply.{Reply}
+use Rattle.band_play.specs.State.{State}
+use Rattle.band_play.specs.Step.{Outcome}
+use Rattle.band_play.specs.Kept as kept
+
+-- the player has come to a state
+abbrev pub StandsFor : Player → State → Type 0
+StandsFor player state = kept.StandsFor player.table state
+
+-- the wakers of the last step that are not taken yet, in order
+abbrev pub wakers_left : Player → List ℕ
+wakers_left player = kept.wakes_left player.table
+
+-- from each state that the player may have come to, it gives the reply and the wakers of the call's outcome, and comes to its state
+abbrev pub Follows : (State → Outcome) → Player → Reply → Player → Type 0
+Follows call old reply new =
+    (state : State) → StandsFor old state →
+    (reply ≡ (call state).reply) × (wakers_left new ≡ (call state).woken) × StandsFor new (call state).state
+
+-- it has come to what it had come to
+abbrev pub Stays : Player → Player → Type 0
+Stays old new = (state : State) → StandsFor old state → StandsFor new state

@@ -1,0 +1,70 @@
+//! The player: one call after another on named objects.
+ghost use Rattle.band_play.specs.Kept.{IsSound};
+
+use crate::table::Table;
+use crate::{Call, Reply};
+use band_base::{Steps, Waker};
+use std::alloc::{AllocError, Global};
+use std::sync::ledger::Ledger;
+
+/// Named objects, and the requests and permits that scripts made of them. Dropping it loses the tokens inside.
+pub struct Player {
+    alloc: Global,
+    table: Table,
+    ghost sound: { ∥ IsSound table ∥₁ },
+}
+
+impl Player {
+    ghost use Rattle.std.specs.Prelude.{◌≡◌, [], ◌∷◌, IfOk, OnErr, MatchOption};
+    ghost use Rattle.band_play.specs.Step.{step};
+    ghost use Rattle.band_play.specs.Player.{StandsFor, Follows, Stays, wakers_left};
+
+    /// No name.
+    pub fn new(alloc: Global) -> Player
+        ensures start { StandsFor result [] }
+        ensures wakers { wakers_left result ≡ [] }
+    {
+        Player {
+            alloc,
+            table: Table::new(alloc),
+        }
+    }
+
+    /// Runs one line of a script.
+    pub fn step<L: Ledger>(
+        &mut self,
+        call: &Call,
+        steps: &mut Steps<L>,
+    ) -> Result<Reply, AllocError>
+        // No waker of the step before is left.
+        requires { wakers_left self.old ≡ [] }
+        ensures follows { IfOk result (λ reply. Follows (step call.now) self.old reply self.new) }
+        ensures err { OnErr result (Stays self.old self.new × (wakers_left self.new ≡ [])) }
+    {
+        match call {
+            Call::Sem { made, n } => self.table.make_semaphore(self.alloc, made, *n),
+            Call::Ask { made, of, n, waker } => {
+                self.table.ask(made, of, *n, Waker(*waker), steps)
+            }
+            Call::Poll { name, waker } => Ok(self.table.poll(name, Waker(*waker), steps)),
+            Call::Drop { name } => Ok(self.table.drop_name(name, steps)),
+        }
+    }
+
+    /// Takes the next waker of the last step, in the order of the grants.
+    pub fn take_wake(&mut self) -> Option<Waker>
+        ensures woken { MatchOption result
+            ((wakers_left self.old ≡ []) × (wakers_left self.new ≡ []))
+            (λ waker. wakers_left self.old ≡ waker.0 ∷ wakers_left self.new) }
+        ensures state { Stays self.old self.new }
+    {
+        self.table.take_wake()
+    }
+}
+
+impl Drop for Player {
+    fn drop(self) {
+        let Player { alloc: _, table } = self;
+        table.lose();
+    }
+}
