@@ -1,4 +1,5 @@
 //! The player: one call after another on named objects.
+ghost use Rattle.std.proofs.Props.{props};
 ghost use Rattle.band_play.specs.Kept.{IsSound};
 
 use crate::table::Table;
@@ -11,7 +12,7 @@ use std::sync::ledger::Ledger;
 pub struct Player {
     alloc: Global,
     table: Table,
-    ghost sound: { ∥ IsSound table ∥₁ },
+    ghost sound: { IsSound table } by { Prim.hlevel props },
 }
 
 impl Player {
