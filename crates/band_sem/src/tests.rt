@@ -1,5 +1,6 @@
 //! What no clause says: that calls succeed, in one small life of a semaphore.
-ghost use Rattle.std.specs.Prelude.{◌≡◌, ◌<◌};
+ghost use Rattle.std.specs.Prelude.{◌≡◌, ◌<◌, IsTrue};
+ghost use Rattle.band_balance.specs.Line.{is_served};
 ghost use Rattle.band_base.specs.declared.poll.Poll.TheVariants as poll;
 ghost use Rattle.band_sem.specs.Semaphore.{IsLawful, IsOwn, Polls};
 
@@ -53,6 +54,29 @@ fn gets<L: Ledger, R: Abort>(
     }
 }
 
+/// Asks for one permit, gives it back at once, and tells whether there was one to be had without waiting.
+fn knock<L: Ledger>(sem: &mut Semaphore, waker: Waker, steps: &mut Steps<L>) -> bool
+    ensures served { IsTrue result → IsTrue (is_served 1 sem.old.line) }
+    ensures lawful { IsLawful sem.new.line sem.new.held }
+{
+    let mut request = sem.acquire(1);
+    match request.poll_once(sem, waker, steps) {
+        Ok(Poll::Ready(permit)) => {
+            sem.drop_permit(permit, steps);
+            request.cancel(sem, steps);
+            true
+        }
+        Ok(Poll::Pending) => {
+            request.cancel(sem, steps);
+            false
+        }
+        Err(_) => {
+            request.cancel(sem, steps);
+            false
+        }
+    }
+}
+
 /// Two ask, the first gives up, and the second is woken and has its permit until it gives it back.
 fn first_gives_up<L: Ledger, R: Abort>(rt: &R, alloc: Global, blank: Blank)
     requires name { blank.name ≡ L.name }
@@ -78,6 +102,7 @@ fn first_gives_up<L: Ledger, R: Abort>(rt: &R, alloc: Global, blank: Blank)
         Ok(Poll::Ready(permit)) => permit.lose(),
     }
     one.lose();
+    assert!(rt; knock(&mut sem, Waker(6), &mut steps));
 }
 
 #[test]
