@@ -1,10 +1,10 @@
 -- What stands at the first place that passes.
-use Rattle.std.proofs.Common.{◌≡◌, refl, ℕ, ◌+◌, ◌<◌, ◌≤◌, Bool, true, false, not, List, [], ◌∷◌, map, length, get_or, set, arith, ap, Option, Some, None, suc, zero, cond, nat_lt}
+use Rattle.std.proofs.Common.{◌≡◌, refl, ℕ, ◌+◌, ◌<◌, ◌≤◌, Bool, true, false, not, List, [], ◌∷◌, length, get_or, set, arith, ap, Option, Some, None, suc, zero, cond, nat_lt}
 use Rattle.std.specs.Prelude.{find, OnSome}
 use Rattle.std.specs.List.{remove, position, position_or_len}
 use Rattle.std.proofs.lemmas.Bool.Decides.{nat_tests}
 use Rattle.std.proofs.lemmas.List.Quantifiers.{position-Some}
-use Rattle.band_balance.specs.Line.{Entry, Waiting, entry_of, without, without_waiting, leave_waker}
+use Rattle.band_balance.specs.Line.{Entry, Waiting, without, without_waiting, leave_waker}
 
 -- the place i is the first of xs that passes p
 pub record IsFirst {X : Type 0} (p : X → Bool) (xs : List X) (i : ℕ) (d : X) : Type 0 where
@@ -68,15 +68,6 @@ without_waiting-nowhere is (w ∷ ws) h = let f = nowhere-cons (λ v. is v.name)
 pub leave_waker-nowhere : (is : ℕ → Bool) (waker : ℕ) (ws : List (Waiting ℕ)) → length ws ≤ position_or_len (λ w. is w.name) ws → leave_waker is waker ws ≡ ws
 leave_waker-nowhere is waker [] h = refl
 leave_waker-nowhere is waker (w ∷ ws) h = let f = nowhere-cons (λ v. is v.name) w ws h in rw f.0 (ap (λ ys. w ∷ ys) (leave_waker-nowhere is waker ws f.1))
-
--- a new waker changes nobody's place
-pub entries-leave_waker : (is : ℕ → Bool) (waker : ℕ) (ws : List (Waiting ℕ)) → map entry_of (leave_waker is waker ws) ≡ map entry_of ws
-entries-leave_waker is waker [] = refl
-entries-leave_waker is waker (w ∷ ws) =
-    elim (is w.name) as (λ b. map entry_of (cond b (record w { waker = waker } ∷ ws) (w ∷ leave_waker is waker ws)) ≡ map entry_of (w ∷ ws)) [
-      | true ↦ refl
-      | false ↦ ap (λ ys. entry_of w ∷ ys) (entries-leave_waker is waker ws)
-    ]
 
 pub OnSome-holds : {X : Type 0} (o : Option X) (x : X) (P : Type 0) → o ≡ Some x → OnSome o P → P
 OnSome-holds o x P e h = rw e at h

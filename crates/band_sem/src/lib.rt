@@ -12,3 +12,6 @@ pub use acquire::Acquire;
 pub use permit::SemaphorePermit;
 pub use refusal::Refusal;
 pub use semaphore::Semaphore;
+
+#[cfg(test)]
+mod tests;

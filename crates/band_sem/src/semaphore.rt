@@ -99,7 +99,7 @@ impl Semaphore {
         self.store.cancel(slot);
     }
 
-    /// What its line keeps between any two calls.
+    /// Does nothing: a caller that changes nothing learns that the line is lawful.
     pub(crate) fn touch(&self)
         ensures { IsLawful self.now.line self.now.held }
     {

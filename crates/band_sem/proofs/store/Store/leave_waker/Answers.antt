@@ -1,9 +1,10 @@
 use Rattle.std.proofs.Common.{◌≡◌, ℕ, ap, sym, ◌∙◌, set}
 use Rattle.std.proofs.lemmas.List.{length-set}
 use Rattle.band_balance.specs.Line.{Waiting, leave_waker}
+use Rattle.band_balance.proofs.Requests.{entries-leave_waker}
 use Rattle.band_sem.specs.Semaphore.{is_slot}
 use Rattle.band_sem.proofs.Line.{HeadWaits-leave_waker}
-use Rattle.band_sem.proofs.Places.{IsFirst-position, leave_waker-first, leave_waker-nowhere, nowhere-position, entries-leave_waker}
+use Rattle.band_sem.proofs.Places.{IsFirst-position, leave_waker-first, leave_waker-nowhere, nowhere-position}
 use Rattle.band_sem.proofs.store.Store.leave_waker.Goals as goal
 
 abbrev with_waker : ℕ → Waiting ℕ → Waiting ℕ
