@@ -15,4 +15,5 @@ pub mod Standing
 pub mod TableLemmas
 pub mod Turns
 pub mod Updates
+pub mod Waking
 pub mod WordLemmas

@@ -1,11 +1,10 @@
 -- A permit that is given back in the table.
-use Rattle.std.proofs.Common.{◌≡◌, ℕ, ◌+◌, ◌-◌, ◌==◌, Bool, true, false, cond, List, [], ◌∷◌, ◌++◌, map, Option, Some, None, option_map, ◌⊎◌, inl, inr, refl, sym, ap, ap₂, ◌∙◌, subst, arith, length, zero-add, nat_eq}
-use Rattle.std.specs.List.{AllByRecursion, slice_get, slice_set, IsDistinct}
+use Rattle.std.proofs.Common.{◌≡◌, ℕ, ◌+◌, ◌-◌, List, [], Option, Some, None, refl, sym, ap, ◌∙◌, subst, arith}
+use Rattle.std.specs.List.{AllByRecursion, slice_get}
 use Rattle.std.specs.Str.{bytes_eq}
-use Rattle.std.proofs.lemmas.Bool.{false≢true, eqb-true}
-use Rattle.std.proofs.lemmas.Option.{none-some, same_Some}
-use Rattle.band_balance.specs.Line.{Entry, Waiting, Line, requests, rename, entry_named, total, without, give_back}
-use Rattle.band_balance.specs.Object.{Object, Turn, Answer, Done, turn, drop, drop_of}
+use Rattle.std.proofs.lemmas.Option.{same_Some}
+use Rattle.band_balance.specs.Line.{Entry, requests, rename, entry_named, total, without, give_back}
+use Rattle.band_balance.specs.Object.{Object, Done, drop, drop_of}
 use Rattle.band_balance.proofs.Rename.{give_back-rename}
 use Rattle.band_balance.proofs.Requests.{requests-give_back, entry_named-without_other}
 use Rattle.band_balance.proofs.Settle.{total-without}
@@ -15,13 +14,11 @@ use Rattle.band_sem.specs.Permit.{Permit}
 use Rattle.band_play.specs.declared.thing.Thing.{Thing}
 use Rattle.band_play.specs.declared.thing.Thing.TheVariants as things
 use Rattle.band_play.specs.State.{State, Named, Tag, is_tag, permit_tag}
-use Rattle.band_play.specs.Table.{StandsAt, StandsUnder, IsKnown, request_at, permit_at, quiet}
-use Rattle.band_play.proofs.Lists.{by_bool, at_set_same}
-use Rattle.band_play.proofs.Standing.{same_bytes, bytes_same}
+use Rattle.band_play.specs.Table.{StandsAt, StandsUnder, request_at}
 use Rattle.band_play.specs.Names.{Updated}
-use Rattle.band_play.proofs.Change.{place_of, all_weaker, stays, Keeps}
+use Rattle.band_play.proofs.Change.{place_of, all_weaker, stays}
 use Rattle.band_play.proofs.Distinct.{others_stay, once_without}
-use Rattle.band_play.proofs.Turns.{TurnsTo, turns_to, with_object, quieted, quiet_line, tags_one, tags_apart}
+use Rattle.band_play.proofs.Turns.{TurnsTo, turns_to, quiet_line, tags_one, tags_apart}
 
 module _ (names : ℕ → ℕ → Tag) (table table' : List ℕ → Option Thing) (m : List ℕ) (sems : List SemaphoreState) (state : State)
     (place : ℕ) (sem : SemaphoreState) (named : Named) (count : ℕ)
@@ -72,18 +69,18 @@ module _ (names : ℕ → ℕ → Tag) (table table' : List ℕ → Option Thing
   pub dropped_permit : TurnsTo names table' sems state place given_sem named Done (drop (is_tag m) named.object)
   dropped_permit =
       subst (λ (o : Option (Entry Tag)). TurnsTo names table' sems state place given_sem named Done (drop_of o (is_tag m) named.object))
-        (sym own)
-        (turns_to names names table table' m None sems state place sem given_sem named given_object stands update at_sem at_named same_names nowhere not_object
-          (ap (give_back count) line_before ∙ give_back-rename (names place) count sem.line)
-          refl refl left lawful
-          (rw (requests-give_back count sem.line) requests_stay)
-          (all_weaker _ _ (λ (e : Entry Tag) h. update.others e.name.name h.1 ∙ h.0) (without (is_tag m) named.object.held)
-            (others_stay (λ (a b : Tag). bytes_eq a.name b.name) (is_tag m) (tags_one m) _ named.object.held here.each_held here.held_once))
-          (once_without (λ (a b : Tag). bytes_eq a.name b.name) (is_tag m) named.object.held here.held_once)
-          (record {
-            name = refl;
-            request = λ n s e other found named_n. (ap (entry_named (is_slot s)) (requests-give_back count sem.line) ∙ found, named_n);
-            permit = λ n e other found. entry_named-without_other (is_tag m) (is_tag n) named.object.held (tags_apart m n named.object.held other) ∙ found;
-          })
-          tt
-          Done)
+      (sym own)
+      (turns_to names names table table' m None sems state place sem given_sem named given_object stands update at_sem at_named same_names nowhere not_object
+      (ap (give_back count) line_before ∙ give_back-rename (names place) count sem.line)
+      refl refl left lawful
+      (rw (requests-give_back count sem.line) requests_stay)
+      (all_weaker _ _ (λ (e : Entry Tag) h. update.others e.name.name h.1 ∙ h.0) (without (is_tag m) named.object.held)
+      (others_stay (λ (a b : Tag). bytes_eq a.name b.name) (is_tag m) (tags_one m) _ named.object.held here.each_held here.held_once))
+      (once_without (λ (a b : Tag). bytes_eq a.name b.name) (is_tag m) named.object.held here.held_once)
+      (record {
+        name = refl;
+        request = λ n s e other found named_n. (ap (entry_named (is_slot s)) (requests-give_back count sem.line) ∙ found, named_n);
+        permit = λ n e other found. entry_named-without_other (is_tag m) (is_tag n) named.object.held (tags_apart m n named.object.held other) ∙ found;
+      })
+      tt
+      Done)

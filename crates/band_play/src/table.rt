@@ -165,15 +165,14 @@ impl Table {
         ensures follows { Follows (λ state. dropping (standing name.now state) name.now state) self.old result self.new }
         ensures sound { IsSound self.new }
     {
-        match self.names.get(name) {
-            None => return Reply::Refused(Refusal::Unknown),
-            Some(Thing::Object(_)) => return Reply::Refused(Refusal::Kind),
-            Some(_) => {}
+        if names::is_object(&self.names, name) {
+            return Reply::Refused(Refusal::Kind);
         }
-        if let Some(thing) = names::remove(&mut self.names, name) {
-            self.last = thing.place();
-            thing.drop_from(&mut self.objects, steps);
-        }
+        let Some(thing) = names::remove(&mut self.names, name) else {
+            return Reply::Refused(Refusal::Unknown);
+        };
+        self.last = thing.place();
+        thing.drop_from(&mut self.objects, steps);
         Reply::Done
     }
 
