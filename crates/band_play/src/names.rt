@@ -46,7 +46,7 @@ pub(crate) fn reserve(names: &mut Names, name: &Name) -> Result<(), AllocError>
 }
 
 /// Gives a live name another meaning, and answers the one before.
-pub(crate) fn replace(names: &mut Names, name: &Name, thing: Thing) -> Option<Thing>
+fn replace(names: &mut Names, name: &Name, thing: Thing) -> Option<Thing>
     ensures before { result ≡ thing_at names.old name.now }
     ensures updated { IfSome result (λ before. Updated (thing_at names.old) (thing_at names.new) name.now (Some thing)) }
     ensures unchanged { IfNone result (IsUnchanged names.old names.new) }
