@@ -16,7 +16,7 @@ returns-clause-some g c =
       at = c.place-place.ensures;
       polled = c.poll-thing.ensures;
       updated =
-        updated c.args.names.now (c.get_mut.follows.lender c.replace.new.dest) c.args.name.now (Some c.poll-thing.result.0)
+          updated c.args.names.now (c.get_mut.follows.lender c.replace.new.dest) c.args.name.now (Some c.poll-thing.result.0)
           (subst (λ w. Updates (slice_cmp nat_cmp) c.args.names.now (c.get_mut.follows.lender c.replace.new.dest) c.args.name.now (Some w)) c.replace.ensures.after
-            ((c.get_mut.follows.holds c.replace.new.dest).3 (search rules)));
+          ((c.get_mut.follows.holds c.replace.new.dest).3 (search rules)));
     }
