@@ -1,6 +1,6 @@
 -- A line: what is free, who waits, who was granted and has not polled since, and the wakers to wake.
 -- N is what names an entry: a slot of a semaphore, or a name of a script with its mode.
-use Rattle.std.specs.Prelude.{ℕ, Bool, true, false, ◌&&◌, ◌||◌, ◌==◌, List, [], ◌∷◌, ◌++◌, map, min, ℤ, pos, ◌+ℤ◌, ◌-ℤ◌, int_le, int_lt, unsigned_abs, if◌then◌else◌, Option, Some, None, find, sum_by}
+use Rattle.std.specs.Prelude.{ℕ, Bool, true, false, ◌&&◌, ◌||◌, ◌==◌, List, [], ◌∷◌, ◌++◌, map, min, ℤ, pos, ◌+ℤ◌, ◌-ℤ◌, int_le, int_lt, unsigned_abs, if◌then◌else◌, Option, Some, None, find, sum_by, ◌-◌, ◌+◌, ◌^◌, neg_ℤ}
 
 -- a request that was granted, or a permit that is held
 pub record Entry (N : Type 0) : Type 0 where
@@ -19,6 +19,10 @@ pub record Line (N : Type 0) : Type 0 where
   pub waiting : List (Waiting N)
   pub granted : List (Entry N)
   pub wakes : List ℕ
+
+-- the largest count
+abbrev pub u64_max : ℕ
+u64_max = 2 ^ 64 - 1
 
 module _ {N : Type 0} where
   -- a line in which nobody is
@@ -79,6 +83,14 @@ module _ {N : Type 0} where
   -- how many a drain of at most n takes
   abbrev pub drained : ℕ → Line N → ℕ
   drained n line = min n (available line)
+
+  -- a release of n is refused: what is free, granted and held, and n, would pass the largest count
+  abbrev pub overflows : ℕ → Line N → ℕ → Bool
+  overflows n line held = int_lt (pos u64_max) (line.free +ℤ pos (total line.granted + held + n))
+
+  -- a reduction by n is refused: what is free would fall below the largest debt
+  abbrev pub owes_too_much : ℕ → Line N → Bool
+  owes_too_much n line = int_lt (line.free -ℤ pos n) (neg_ℤ (pos u64_max))
 
   -- the first entry that is meant
   abbrev pub entry_named : (N → Bool) → List (Entry N) → Option (Entry N)

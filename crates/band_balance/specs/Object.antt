@@ -1,6 +1,6 @@
 -- An object: its kind, its line and what is held of it. Each call answers, wakes some wakers in order, and leaves the object.
 use Rattle.std.specs.Prelude.{ℕ, ◌+◌, ◌-◌, ◌^◌, Bool, List, [], ◌∷◌, ◌++◌, length, ℤ, pos, neg_ℤ, ◌+ℤ◌, ◌-ℤ◌, int_lt, nat_le, if◌then◌else◌, Option, Some, None}
-use Rattle.band_balance.specs.Line.{Entry, Line, open_line, total, is_served, take_permits, give_back, join, available, drained, entry_named, without, poll_granted, poll_waiting, cancel}
+use Rattle.band_balance.specs.Line.{Entry, Line, open_line, total, is_served, take_permits, give_back, join, available, drained, overflows, owes_too_much, entry_named, without, poll_granted, poll_waiting, cancel}
 
 pub data Kind : Type 0 where
   Semaphore : Kind
@@ -34,10 +34,6 @@ pub record Turn (N : Type 0) : Type 0 where
   pub answer : Answer
   pub woken : List ℕ
   pub object : Object N
-
--- the largest count
-abbrev pub u64_max : ℕ
-u64_max = 2 ^ 64 - 1
 
 -- what a request of a mode asks for, where it doesn't say
 abbrev pub size_of : Kind → Mode → ℕ
@@ -162,11 +158,10 @@ module _ {N : Type 0} where
   abbrev pub downgrade : (N → Bool) → N → Object N → Turn N
   downgrade is reader object = downgrade_of object.kind (entry_named is object.held) is reader object
 
-  -- a release of n is refused: what is free, granted and held, and n, would pass the largest count
+  -- a release of n is refused
   abbrev pub would_overflow : ℕ → Object N → Bool
-  would_overflow n object =
-      int_lt (pos u64_max) (object.line.free +ℤ pos (total object.line.granted + total object.held + n))
+  would_overflow n object = overflows n object.line (total object.held)
 
-  -- a reduction by n is refused: what is free would fall below the largest debt
+  -- a reduction by n is refused
   abbrev pub would_owe_too_much : ℕ → Object N → Bool
-  would_owe_too_much n object = int_lt (object.line.free -ℤ pos n) (neg_ℤ (pos u64_max))
+  would_owe_too_much n object = owes_too_much n object.line

@@ -1,6 +1,7 @@
 -- Worked scripts on one object, with what each call answers and whom it wakes. They follow by computation.
 use Rattle.std.specs.Prelude.{◌≡◌, ℕ, zero, suc, ◌==◌, Bool, true, List, [], ◌∷◌, ◌++◌, map, pos, neg_ℤ}
-use Rattle.band_balance.specs.Object.{Mutex, ReaderWriter, Lock, Read, Write, Object, Answer, Done, Ready, Pending, Nothing, Drained, Figures, Turn, u64_max, size_of, new_semaphore, new_mutex, new_reader_writer, ask, poll, try_for, drop, release, reduce, drain, status, forget, split, merge, downgrade, would_overflow, would_owe_too_much}
+use Rattle.band_balance.specs.Line.{u64_max}
+use Rattle.band_balance.specs.Object.{Mutex, ReaderWriter, Lock, Read, Write, Object, Answer, Done, Ready, Pending, Nothing, Drained, Figures, Turn, size_of, new_semaphore, new_mutex, new_reader_writer, ask, poll, try_for, drop, release, reduce, drain, status, forget, split, merge, downgrade, would_overflow, would_owe_too_much}
 
 -- a call of a script, whose names are letters, as numbers
 abbrev pub Call : Type 0

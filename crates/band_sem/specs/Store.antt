@@ -2,8 +2,7 @@
 use Rattle.std.specs.Prelude.{◌≡◌, ℕ, ◌+◌, ◌<◌, ◌≤◌, Bool, false, List, [], ◌∷◌, length, ℤ, pos, neg_ℤ, ◌+ℤ◌, ◌≤ℤ◌, int_le, IsTrue, Option, Some, None, Result, Ok, Err}
 use Rattle.std.specs.VecDeque.{deque_capacity}
 use Rattle.std.specs.declared.alloc.AllocError.{AllocError}
-use Rattle.band_balance.specs.Line.{Entry, Waiting, Line, requests, total, is_served, take_permits, join, entry_named, poll_granted, poll_waiting}
-use Rattle.band_balance.specs.Object.{u64_max}
+use Rattle.band_balance.specs.Line.{Entry, Waiting, Line, requests, total, is_served, take_permits, join, entry_named, poll_granted, poll_waiting, u64_max}
 use Rattle.band_sem.specs.declared.store.Store.{Store}
 use Rattle.band_sem.specs.declared.store.Entrance.{Entrance}
 use Rattle.band_sem.specs.declared.store.Entrance.TheVariants.{Served, Joined}
