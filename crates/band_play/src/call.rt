@@ -26,4 +26,44 @@ pub enum Call {
     Drop {
         name: Name,
     },
+    /// `try P S N`: takes `n` permits of a semaphore without waiting.
+    Try {
+        made: Name,
+        of: Name,
+        n: u64,
+    },
+    /// `release S N`: adds `n` permits to a semaphore.
+    Release {
+        of: Name,
+        n: u64,
+    },
+    /// `reduce S N`: takes `n` permits away for good, into debt if need be.
+    Reduce {
+        of: Name,
+        n: u64,
+    },
+    /// `drain S N`: takes away what is available, `n` at most.
+    Drain {
+        of: Name,
+        n: u64,
+    },
+    /// `forget P`: ends a permit, and nothing comes back.
+    Forget {
+        name: Name,
+    },
+    /// `split P Q N`: moves `n` of a permit to a new one.
+    Split {
+        name: Name,
+        made: Name,
+        n: u64,
+    },
+    /// `merge P Q`: moves all of the second permit to the first.
+    Merge {
+        kept: Name,
+        spent: Name,
+    },
+    /// `status O`: the figures of an object.
+    Status {
+        name: Name,
+    },
 }
