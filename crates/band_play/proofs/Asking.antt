@@ -6,7 +6,7 @@ use Rattle.std.specs.Str.{bytes_eq}
 use Rattle.std.proofs.lemmas.Bool.{false≢true, eqb-true}
 use Rattle.std.proofs.lemmas.Option.{none-some}
 use Rattle.band_balance.specs.Line.{Entry, Line, requests, rename, entry_named, is_served, take_permits, join}
-use Rattle.band_balance.specs.Object.{Object, Turn, Ready, Pending, turn, ask, hold}
+use Rattle.band_balance.specs.Object.{Answer, Done, Nothing, Object, Pending, Ready, Turn, ask, hold, try_for, turn}
 use Rattle.band_balance.proofs.Rename.{is_served-rename, rename_agree, join-rename, all_of_both}
 use Rattle.band_balance.proofs.Requests.{requests-join, entry_named-join_itself, entry_named-join_other, entry_named-append}
 use Rattle.band_balance.proofs.Settle.{total-append}
@@ -104,26 +104,36 @@ module _ (names : ℕ → ℕ → Tag) (table table' : List ℕ → Option Thing
     table_stays : (name : List ℕ) (thing : Thing) → table name ≡ Some thing → table' name ≡ Some thing
     table_stays name thing is = stays update name thing (λ e. none-some thing (sym absent ∙ e)) is
 
+    pub served_turn : (answer : Answer) → TurnsTo names table' sems state place served_sem named answer (turn answer served_object)
+    served_turn answer =
+        turns_to names names table table' made _ sems state place sem served_sem named served_object stands update at_sem at_named other_names nowhere not_object
+          (ap (take_permits n) line_before) refl refl
+          (total-append named.object.held (record { name = permit_tag made; size = n } ∷ []) ∙ ap₂ (λ a b. a + b) here.held (zero-add n))
+          lawful
+          (all_weaker _ _ (λ (e : Entry ℕ) is. table_stays (names place e.name).name (request_at place e) is) (requests sem.line) here.each_request)
+          (all_of_both _ named.object.held (record { name = permit_tag made; size = n } ∷ [])
+            (all_weaker _ _ (λ (e : Entry Tag) is. table_stays e.name.name (permit_at place e) is) named.object.held here.each_held)
+            (update.here made (bytes_same made made refl), tt))
+          (once_push (λ (a b : Tag). bytes_eq a.name b.name) named.object.held (record { name = permit_tag made; size = n }) here.held_once held_apart)
+          (record {
+            name = refl;
+            request = λ name slot e other found called. (found, called);
+            permit = λ name e other found. found_before n name e named.object.held found;
+          })
+          (with_object named (quieted served_object), at_set_same state place named (with_object named (quieted served_object)) at_named, found_last n named.object.held held_apart)
+          answer
+
     pub asked_served : TurnsTo names table' sems state place served_sem named Ready (ask (permit_tag made) n waker named.object)
     asked_served =
         subst (λ (t : Turn Tag). TurnsTo names table' sems state place served_sem named Ready t)
-        (sym (cond_true (is_served n named.object.line) (turn Ready served_object) (turn Pending (record named.object { line = join (permit_tag made) n waker named.object.line })) (asked_test ∙ served)))
-        (turns_to names names table table' made _ sems state place sem served_sem named served_object stands update at_sem at_named other_names nowhere not_object
-        (ap (take_permits n) line_before) refl refl
-        (total-append named.object.held (record { name = permit_tag made; size = n } ∷ []) ∙ ap₂ (λ a b. a + b) here.held (zero-add n))
-        lawful
-        (all_weaker _ _ (λ (e : Entry ℕ) is. table_stays (names place e.name).name (request_at place e) is) (requests sem.line) here.each_request)
-        (all_of_both _ named.object.held (record { name = permit_tag made; size = n } ∷ [])
-        (all_weaker _ _ (λ (e : Entry Tag) is. table_stays e.name.name (permit_at place e) is) named.object.held here.each_held)
-        (update.here made (bytes_same made made refl), tt))
-        (once_push (λ (a b : Tag). bytes_eq a.name b.name) named.object.held (record { name = permit_tag made; size = n }) here.held_once held_apart)
-        (record {
-          name = refl;
-          request = λ name slot e other found called. (found, called);
-          permit = λ name e other found. found_before n name e named.object.held found;
-        })
-        (with_object named (quieted served_object), at_set_same state place named (with_object named (quieted served_object)) at_named, found_last n named.object.held held_apart)
-        Ready)
+          (sym (cond_true (is_served n named.object.line) (turn Ready served_object) (turn Pending (record named.object { line = join (permit_tag made) n waker named.object.line })) (asked_test ∙ served)))
+          (served_turn Ready)
+
+    pub tried_served : TurnsTo names table' sems state place served_sem named Done (try_for (permit_tag made) n named.object)
+    tried_served =
+        subst (λ (t : Turn Tag). TurnsTo names table' sems state place served_sem named Done t)
+          (sym (cond_true (is_served n named.object.line) (turn Done served_object) (turn Nothing named.object) (asked_test ∙ served)))
+          (served_turn Done)
 
   -- it joins under a slot that nobody has
   module _ (slot : ℕ) (waits : is_served n sem.line ≡ false) (fresh : entry_named (is_slot slot) (requests sem.line) ≡ None)

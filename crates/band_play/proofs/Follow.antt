@@ -23,7 +23,7 @@ use Rattle.band_play.specs.declared.thing.Thing.{Thing}
 use Rattle.band_play.specs.declared.thing.Thing.TheVariants as things
 use Rattle.band_play.specs.Names.{Updated}
 use Rattle.band_play.specs.State.{State, Named, Tag, is_tag, permit_tag, standing}
-use Rattle.band_play.specs.Step.{Outcome, reply_of, refused, after_turn, turn_of, turn_at, unless_taken, on_kind, on_semaphore, asking, polling, dropping}
+use Rattle.band_play.specs.Step.{Outcome, reply_of, refused, after_turn, turn_of, turn_at, unless_taken, on_kind, with_semaphore, asking, polling, dropping}
 use Rattle.band_play.specs.Table.{StandsUnder, Stands, IsKnown}
 use Rattle.band_play.specs.Moves.{PollsRequest, PollsThing, Becomes, IsAnswered, object_of, given_back, place_at}
 use Rattle.band_play.specs.Kept.{wakes_of, OthersQuiet}
@@ -124,13 +124,13 @@ module _ (names : ℕ → ℕ → Tag) (table : List ℕ → Option Thing) (sems
       → asking (standing of state) made n waker state ≡ unless_taken (standing made state) (turn_at place (ask (permit_tag made) n waker) state) state
   asking_at made of n waker place named is there kind =
       ap (λ s. asking s made n waker state) (stands_as of (Some (things.Object place)) is)
-      ∙ ap (λ o. on_semaphore o (unless_taken (standing made state) (turn_at place (ask (permit_tag made) n waker) state) state) state) there
+      ∙ ap (λ o. with_semaphore o (λ semaphore. unless_taken (standing made state) (turn_at place (ask (permit_tag made) n waker) state) state) state) there
       ∙ ap (λ k. on_kind k (unless_taken (standing made state) (turn_at place (ask (permit_tag made) n waker) state) state) state) kind
 
-  there_for : (place : ℕ) (of : List ℕ) → table of ≡ Some (things.Object place) → (named : Named) × (slice_get state place ≡ Some named) × (named.name ≡ of)
+  pub there_for : (place : ℕ) (of : List ℕ) → table of ≡ Some (things.Object place) → (named : Named) × (slice_get state place ≡ Some named) × (named.name ≡ of)
   there_for place of is = subst (λ (o : Option Thing). IsKnown names sems state of o) is (stands.every of)
 
-  kind_of : (place : ℕ) (sem : SemaphoreState) (named : Named) → slice_get sems place ≡ Some sem → slice_get state place ≡ Some named → named.object.kind ≡ Semaphore
+  pub kind_of : (place : ℕ) (sem : SemaphoreState) (named : Named) → slice_get sems place ≡ Some sem → slice_get state place ≡ Some named → named.object.kind ≡ Semaphore
   kind_of place sem named at_sem at_named = (stands.each place sem named at_sem at_named).kind
 
   pub ask_taken : (made of : List ℕ) (n waker place : ℕ) (sem : SemaphoreState) (thing : Thing) → object_of (table of) ≡ Ok place → slice_get sems place ≡ Some sem → table made ≡ Some thing

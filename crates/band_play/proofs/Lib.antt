@@ -1,4 +1,5 @@
 pub mod Asking
+pub mod Calling
 pub mod Change
 pub mod Distinct
 pub mod Follow
@@ -8,6 +9,7 @@ pub mod Lists
 pub mod Making
 pub mod NameLemmas
 pub mod NumberLemmas
+pub mod Numbers
 pub mod Permits
 pub mod Requests
 pub mod Sound

@@ -69,12 +69,20 @@ with_semaphore (Some named) call state = on_kind named.object.kind (call named.o
 abbrev pub on_semaphore : ℕ → (Object Tag → Outcome) → State → Outcome
 on_semaphore place call state = with_semaphore (slice_get state place) call state
 
+-- a call of the object that a name is
+abbrev pub calling : Standing → (ℕ → Outcome) → State → Outcome
+calling Absent call state = refused Unknown state
+calling (AnObject place) call state = call place
+calling (ARequest place) call state = refused Kind state
+calling (AHolding place) call state = refused Kind state
+
+-- a call of the semaphore that a name is
+abbrev pub calling_semaphore : Standing → (ℕ → Object Tag → Outcome) → State → Outcome
+calling_semaphore standing call state = calling standing (λ place. on_semaphore place (call place) state) state
+
 abbrev pub asking : Standing → List ℕ → ℕ → ℕ → State → Outcome
-asking Absent made n waker state = refused Unknown state
-asking (AnObject place) made n waker state =
-    on_semaphore place (λ semaphore. unless_taken (standing made state) (turn_at place (ask (permit_tag made) n waker) state) state) state
-asking (ARequest place) made n waker state = refused Kind state
-asking (AHolding place) made n waker state = refused Kind state
+asking of made n waker state =
+    calling_semaphore of (λ place semaphore. unless_taken (standing made state) (turn_at place (ask (permit_tag made) n waker) state) state) state
 
 abbrev pub polling : Standing → List ℕ → ℕ → State → Outcome
 polling Absent name waker state = refused Unknown state
@@ -89,51 +97,43 @@ dropping (ARequest place) name state = turn_at place (drop (is_tag name)) state
 dropping (AHolding place) name state = turn_at place (drop (is_tag name)) state
 
 abbrev pub trying : Standing → List ℕ → ℕ → State → Outcome
-trying Absent made n state = refused Unknown state
-trying (AnObject place) made n state =
-    on_semaphore place (λ semaphore. unless_taken (standing made state) (turn_at place (try_for (permit_tag made) n) state) state) state
-trying (ARequest place) made n state = refused Kind state
-trying (AHolding place) made n state = refused Kind state
+trying of made n state =
+    calling_semaphore of (λ place semaphore. unless_taken (standing made state) (turn_at place (try_for (permit_tag made) n) state) state) state
 
 abbrev pub releasing : Standing → ℕ → State → Outcome
-releasing Absent n state = refused Unknown state
-releasing (AnObject place) n state =
-    on_semaphore place (λ semaphore. if would_overflow n semaphore then refused Overflow state else turn_at place (release n) state) state
-releasing (ARequest place) n state = refused Kind state
-releasing (AHolding place) n state = refused Kind state
+releasing of n state =
+    calling_semaphore of (λ place semaphore. if would_overflow n semaphore then refused Overflow state else turn_at place (release n) state) state
 
 abbrev pub reducing : Standing → ℕ → State → Outcome
-reducing Absent n state = refused Unknown state
-reducing (AnObject place) n state =
-    on_semaphore place (λ semaphore. if would_owe_too_much n semaphore then refused Debt state else turn_at place (reduce n) state) state
-reducing (ARequest place) n state = refused Kind state
-reducing (AHolding place) n state = refused Kind state
+reducing of n state =
+    calling_semaphore of (λ place semaphore. if would_owe_too_much n semaphore then refused Debt state else turn_at place (reduce n) state) state
 
 abbrev pub draining : Standing → ℕ → State → Outcome
-draining Absent n state = refused Unknown state
-draining (AnObject place) n state = on_semaphore place (λ semaphore. turn_at place (drain n) state) state
-draining (ARequest place) n state = refused Kind state
-draining (AHolding place) n state = refused Kind state
+draining of n state = calling_semaphore of (λ place semaphore. turn_at place (drain n) state) state
 
 abbrev pub showing : Standing → State → Outcome
-showing Absent state = refused Unknown state
-showing (AnObject place) state = turn_at place status state
-showing (ARequest place) state = refused Kind state
-showing (AHolding place) state = refused Kind state
+showing of state = calling of (λ place. turn_at place status state) state
 
--- what is held of a semaphore is a permit
+-- a call of the permit that a name is: what is held of a semaphore
+abbrev pub on_permit : Standing → (ℕ → Outcome) → State → Outcome
+on_permit Absent call state = refused Unknown state
+on_permit (AnObject place) call state = refused Kind state
+on_permit (ARequest place) call state = refused Kind state
+on_permit (AHolding place) call state = on_semaphore place (λ semaphore. call place) state
+
 abbrev pub forgetting : Standing → List ℕ → State → Outcome
-forgetting Absent name state = refused Unknown state
-forgetting (AnObject place) name state = refused Kind state
-forgetting (ARequest place) name state = refused Kind state
-forgetting (AHolding place) name state = on_semaphore place (λ semaphore. turn_at place (forget (is_tag name)) state) state
+forgetting standing name state = on_permit standing (λ place. turn_at place (forget (is_tag name)) state) state
 
 abbrev pub splitting : Standing → List ℕ → List ℕ → ℕ → State → Outcome
-splitting Absent name made n state = refused Unknown state
-splitting (AnObject place) name made n state = refused Kind state
-splitting (ARequest place) name made n state = refused Kind state
-splitting (AHolding place) name made n state =
-    on_semaphore place (λ semaphore. unless_taken (standing made state) (turn_at place (split (is_tag name) (permit_tag made) n) state) state) state
+splitting permit name made n state =
+    on_permit permit (λ place. unless_taken (standing made state) (turn_at place (split (is_tag name) (permit_tag made) n) state) state) state
+
+-- where a name is live
+abbrev pub unless_absent : Standing → Outcome → State → Outcome
+unless_absent Absent outcome state = refused Unknown state
+unless_absent (AnObject place) outcome state = outcome
+unless_absent (ARequest place) outcome state = outcome
+unless_absent (AHolding place) outcome state = outcome
 
 -- of two permits, at two places
 abbrev pub merging_held : ℕ → ℕ → List ℕ → List ℕ → State → Outcome
@@ -142,20 +142,9 @@ merging_held place other kept spent state =
     else (if place == other then turn_at place (merge (is_tag kept) (is_tag spent)) state else refused Other state)
 
 abbrev pub merging : Standing → Standing → List ℕ → List ℕ → State → Outcome
-merging Absent second kept spent state = refused Unknown state
-merging (AnObject place) Absent kept spent state = refused Unknown state
-merging (AnObject place) (AnObject other) kept spent state = refused Kind state
-merging (AnObject place) (ARequest other) kept spent state = refused Kind state
-merging (AnObject place) (AHolding other) kept spent state = refused Kind state
-merging (ARequest place) Absent kept spent state = refused Unknown state
-merging (ARequest place) (AnObject other) kept spent state = refused Kind state
-merging (ARequest place) (ARequest other) kept spent state = refused Kind state
-merging (ARequest place) (AHolding other) kept spent state = refused Kind state
-merging (AHolding place) Absent kept spent state = refused Unknown state
-merging (AHolding place) (AnObject other) kept spent state = refused Kind state
-merging (AHolding place) (ARequest other) kept spent state = refused Kind state
-merging (AHolding place) (AHolding other) kept spent state =
-    on_semaphore place (λ first. on_semaphore other (λ second. merging_held place other kept spent state) state) state
+merging first second kept spent state =
+    unless_absent first (unless_absent second
+        (on_permit first (λ place. on_permit second (λ other. merging_held place other kept spent state) state) state) state) state
 
 abbrev pub step : Call → State → Outcome
 step (calls.Sem made n) state = making made (new_semaphore n) state

@@ -50,6 +50,7 @@ impl Player {
             }
             Call::Poll { name, waker } => Ok(self.table.poll(name, Waker(*waker), steps)),
             Call::Drop { name } => Ok(self.table.drop_name(name, steps)),
+            _ => Ok(Reply::Refused(band_sem::Refusal::Unknown)),
         }
     }
 
