@@ -10,11 +10,11 @@ use Rattle.std.proofs.lemmas.List.Splits.{join_with_byte-slice_split}
 use Rattle.std.proofs.lemmas.Option.{cond_some, same_Some, none-some}
 use Rattle.std.proofs.lemmas.Slice.Eq.{bytes_eq-Decides}
 use Rattle.band_play.specs.declared.call.Call.{Call}
-use Rattle.band_play.specs.declared.call.Call.TheVariants.{Sem, Ask, Poll, Drop}
+use Rattle.band_play.specs.declared.call.Call.TheVariants.{Sem, Ask, Poll, Drop, Try, Release, Reduce, Drain, Forget, Split, Merge, Status}
 use Rattle.band_play.specs.Name.{IsName, is_name, name_of}
 use Rattle.band_play.specs.Number.{number_of}
 use Rattle.band_play.specs.Words.{words_of, word_at, name_at, number_at, end_with, ◌>>=◌}
-use Rattle.band_play.specs.Grammar.{IsForm, IsLine, sem_of, ask_of, poll_of, drop_of, form_of, call_of}
+use Rattle.band_play.specs.Grammar.{IsForm, IsLine, one_name_of, two_names_of, name_number_of, two_names_number_of, ask_of, form_of, call_of}
 use Rattle.band_play.proofs.NumberLemmas.{number_of-decimal, decimal-number_of}
 
 -- a step that gave something, and what the next made of it
@@ -57,19 +57,74 @@ number_at_again n words fits = rw (number_of-decimal n fits) refl
 abbrev Takes : List ℕ → (List (List ℕ) → Option Call) → Type 0
 Takes word read = (words : List (List ℕ)) (call : Call) → read words ≡ Some call → IsForm (word ∷ words) call
 
-sem_takes : (words : List (List ℕ)) (call : Call) → sem_of words ≡ Some call → IsForm (codes "sem" ∷ words) call
-unfolding sem_of
-sem_takes words call e =
-    let made = bind_some (name_at words) _ call e in
-    let n = bind_some (number_at made.0.1) _ call made.2 in
-    let ended = end_takes n.0.1 (Sem made.0.0 n.0.0) call n.2 in
-    let made_is = name_at_takes words made.0 made.1 in
-    let n_is = number_at_takes made.0.1 n.0 n.1 in
-    rw (← ended.1) (made_is.0, n_is.0, cc)
+-- one form at equal words and an equal call
+form_at : (word : List ℕ) (words others : List (List ℕ)) (call other : Call) → words ≡ others → other ≡ call → IsForm (word ∷ others) other → IsForm (word ∷ words) call
+form_at word words others call other same same_call is = rw (same, ← same_call) is
 
-sem_again : (made : List ℕ) (n : ℕ) → IsName made → n < 2 ^ 64 → sem_of (made ∷ decimal n ∷ []) ≡ Some (Sem made n)
-unfolding sem_of
-sem_again made n is_name fits = rw (name_at_again made _ is_name, number_at_again n _ fits) refl
+one_name_takes : (word : List ℕ) (make : List ℕ → Call) → ((name : List ℕ) → IsName name → IsForm (word ∷ name ∷ []) (make name))
+    → Takes word (one_name_of make)
+unfolding one_name_of
+one_name_takes word make form words call e =
+    let name = bind_some (name_at words) _ call e in
+    let ended = end_takes name.0.1 (make name.0.0) call name.2 in
+    let name_is = name_at_takes words name.0 name.1 in
+    form_at word words (name.0.0 ∷ []) call _ (cc) ended.1 (form _ name_is.0)
+
+one_name_again : (make : List ℕ → Call) (name : List ℕ) → IsName name → one_name_of make (name ∷ []) ≡ Some (make name)
+unfolding one_name_of
+one_name_again make name name_is = rw (name_at_again name _ name_is) refl
+
+two_names_takes : (word : List ℕ) (make : List ℕ → List ℕ → Call)
+    → ((first second : List ℕ) → IsName first → IsName second → IsForm (word ∷ first ∷ second ∷ []) (make first second)) → Takes word (two_names_of make)
+unfolding two_names_of
+two_names_takes word make form words call e =
+    let first = bind_some (name_at words) _ call e in
+    let second = bind_some (name_at first.0.1) _ call first.2 in
+    let ended = end_takes second.0.1 (make first.0.0 second.0.0) call second.2 in
+    let first_is = name_at_takes words first.0 first.1 in
+    let second_is = name_at_takes first.0.1 second.0 second.1 in
+    form_at word words (first.0.0 ∷ second.0.0 ∷ []) call _ (cc) ended.1 (form _ _ first_is.0 second_is.0)
+
+two_names_again : (make : List ℕ → List ℕ → Call) (first second : List ℕ) → IsName first → IsName second
+    → two_names_of make (first ∷ second ∷ []) ≡ Some (make first second)
+unfolding two_names_of
+two_names_again make first second first_is second_is = rw (name_at_again first _ first_is, name_at_again second _ second_is) refl
+
+name_number_takes : (word : List ℕ) (make : List ℕ → ℕ → Call)
+    → ((name : List ℕ) (n : ℕ) → IsName name → n < 2 ^ 64 → IsForm (word ∷ name ∷ decimal n ∷ []) (make name n)) → Takes word (name_number_of make)
+unfolding name_number_of
+name_number_takes word make form words call e =
+    let name = bind_some (name_at words) _ call e in
+    let n = bind_some (number_at name.0.1) _ call name.2 in
+    let ended = end_takes n.0.1 (make name.0.0 n.0.0) call n.2 in
+    let name_is = name_at_takes words name.0 name.1 in
+    let n_is = number_at_takes name.0.1 n.0 n.1 in
+    form_at word words (name.0.0 ∷ decimal n.0.0 ∷ []) call _ (cc) ended.1 (form _ _ name_is.0 n_is.0)
+
+name_number_again : (make : List ℕ → ℕ → Call) (name : List ℕ) (n : ℕ) → IsName name → n < 2 ^ 64
+    → name_number_of make (name ∷ decimal n ∷ []) ≡ Some (make name n)
+unfolding name_number_of
+name_number_again make name n name_is fits = rw (name_at_again name _ name_is, number_at_again n _ fits) refl
+
+two_names_number_takes : (word : List ℕ) (make : List ℕ → List ℕ → ℕ → Call)
+    → ((first second : List ℕ) (n : ℕ) → IsName first → IsName second → n < 2 ^ 64 → IsForm (word ∷ first ∷ second ∷ decimal n ∷ []) (make first second n))
+    → Takes word (two_names_number_of make)
+unfolding two_names_number_of
+two_names_number_takes word make form words call e =
+    let first = bind_some (name_at words) _ call e in
+    let second = bind_some (name_at first.0.1) _ call first.2 in
+    let n = bind_some (number_at second.0.1) _ call second.2 in
+    let ended = end_takes n.0.1 (make first.0.0 second.0.0 n.0.0) call n.2 in
+    let first_is = name_at_takes words first.0 first.1 in
+    let second_is = name_at_takes first.0.1 second.0 second.1 in
+    let n_is = number_at_takes second.0.1 n.0 n.1 in
+    form_at word words (first.0.0 ∷ second.0.0 ∷ decimal n.0.0 ∷ []) call _ (cc) ended.1 (form _ _ _ first_is.0 second_is.0 n_is.0)
+
+two_names_number_again : (make : List ℕ → List ℕ → ℕ → Call) (first second : List ℕ) (n : ℕ) → IsName first → IsName second → n < 2 ^ 64
+    → two_names_number_of make (first ∷ second ∷ decimal n ∷ []) ≡ Some (make first second n)
+unfolding two_names_number_of
+two_names_number_again make first second n first_is second_is fits =
+    rw (name_at_again first _ first_is, name_at_again second _ second_is, number_at_again n _ fits) refl
 
 ask_takes : (words : List (List ℕ)) (call : Call) → ask_of words ≡ Some call → IsForm (codes "ask" ∷ words) call
 unfolding ask_of
@@ -91,32 +146,6 @@ unfolding ask_of
 ask_again made of n waker made_is of_is n_fits waker_fits =
     rw (name_at_again made _ made_is, name_at_again of _ of_is, number_at_again n _ n_fits, number_at_again waker _ waker_fits) refl
 
-poll_takes : (words : List (List ℕ)) (call : Call) → poll_of words ≡ Some call → IsForm (codes "poll" ∷ words) call
-unfolding poll_of
-poll_takes words call e =
-    let name = bind_some (name_at words) _ call e in
-    let waker = bind_some (number_at name.0.1) _ call name.2 in
-    let ended = end_takes waker.0.1 (Poll name.0.0 waker.0.0) call waker.2 in
-    let name_is = name_at_takes words name.0 name.1 in
-    let waker_is = number_at_takes name.0.1 waker.0 waker.1 in
-    rw (← ended.1) (name_is.0, waker_is.0, cc)
-
-poll_again : (name : List ℕ) (waker : ℕ) → IsName name → waker < 2 ^ 64 → poll_of (name ∷ decimal waker ∷ []) ≡ Some (Poll name waker)
-unfolding poll_of
-poll_again name waker name_is waker_fits = rw (name_at_again name _ name_is, number_at_again waker _ waker_fits) refl
-
-drop_takes : (words : List (List ℕ)) (call : Call) → drop_of words ≡ Some call → IsForm (codes "drop" ∷ words) call
-unfolding drop_of
-drop_takes words call e =
-    let name = bind_some (name_at words) _ call e in
-    let ended = end_takes name.0.1 (Drop name.0.0) call name.2 in
-    let name_is = name_at_takes words name.0 name.1 in
-    rw (← ended.1) (name_is.0, cc)
-
-drop_again : (name : List ℕ) → IsName name → drop_of (name ∷ []) ≡ Some (Drop name)
-unfolding drop_of
-drop_again name name_is = rw (name_at_again name _ name_is) refl
-
 -- the first word has the form read that it names
 chosen : (word form : List ℕ) (words : List (List ℕ)) (call : Call) (read : List (List ℕ) → Option Call) (others : Option Call) → Takes word read
     → (others ≡ Some call → IsForm (form ∷ words) call) → cond (bytes_eq form word) (read words) others ≡ Some call → IsForm (form ∷ words) call
@@ -129,11 +158,19 @@ chosen word form words call read others takes rest e = by_test (bytes_eq form wo
 form_takes : (form : List ℕ) (words : List (List ℕ)) (call : Call) → form_of form words ≡ Some call → IsForm (form ∷ words) call
 unfolding form_of
 form_takes form words call =
-    chosen (codes "sem") form words call sem_of _ sem_takes (
-    chosen (codes "ask") form words call ask_of _ ask_takes (
-    chosen (codes "poll") form words call poll_of _ poll_takes (
-    chosen (codes "drop") form words call drop_of _ drop_takes (
-    λ none. cc))))
+    chosen _ form words call _ _ (name_number_takes (codes "sem") Sem (λ _ _ name_is fits. (name_is, fits, refl))) (
+    chosen (codes "ask") form words call _ _ ask_takes (
+    chosen _ form words call _ _ (name_number_takes (codes "poll") Poll (λ _ _ name_is fits. (name_is, fits, refl))) (
+    chosen _ form words call _ _ (one_name_takes (codes "drop") Drop (λ _ name_is. (name_is, refl))) (
+    chosen _ form words call _ _ (two_names_number_takes (codes "try") Try (λ _ _ _ first_is second_is fits. (first_is, second_is, fits, refl))) (
+    chosen _ form words call _ _ (name_number_takes (codes "release") Release (λ _ _ name_is fits. (name_is, fits, refl))) (
+    chosen _ form words call _ _ (name_number_takes (codes "reduce") Reduce (λ _ _ name_is fits. (name_is, fits, refl))) (
+    chosen _ form words call _ _ (name_number_takes (codes "drain") Drain (λ _ _ name_is fits. (name_is, fits, refl))) (
+    chosen _ form words call _ _ (one_name_takes (codes "forget") Forget (λ _ name_is. (name_is, refl))) (
+    chosen _ form words call _ _ (two_names_number_takes (codes "split") Split (λ _ _ _ first_is second_is fits. (first_is, second_is, fits, refl))) (
+    chosen _ form words call _ _ (two_names_takes (codes "merge") Merge (λ _ _ first_is second_is. (first_is, second_is, refl))) (
+    chosen _ form words call _ _ (one_name_takes (codes "status") Status (λ _ name_is. (name_is, refl))) (
+    λ none. cc))))))))))))
 
 words_take : (words : List (List ℕ)) (call : Call) → (word_at words >>= (λ form. form_of form.0 form.1)) ≡ Some call → IsForm words call
 words_take [] call e = cc
@@ -141,10 +178,18 @@ words_take (form ∷ words) call e = form_takes form words call e
 
 words_again : (words : List (List ℕ)) (call : Call) → IsForm words call → (word_at words >>= (λ form. form_of form.0 form.1)) ≡ Some call
 unfolding form_of
-words_again words (Sem made n) is = rw is.2 (sem_again made n is.0 is.1)
+words_again words (Sem made n) is = rw is.2 (name_number_again Sem made n is.0 is.1)
 words_again words (Ask made of n waker) is = rw is.4 (ask_again made of n waker is.0 is.1 is.2 is.3)
-words_again words (Poll name waker) is = rw is.2 (poll_again name waker is.0 is.1)
-words_again words (Drop name) is = rw is.1 (drop_again name is.0)
+words_again words (Poll name waker) is = rw is.2 (name_number_again Poll name waker is.0 is.1)
+words_again words (Drop name) is = rw is.1 (one_name_again Drop name is.0)
+words_again words (Try made of n) is = rw is.3 (two_names_number_again Try made of n is.0 is.1 is.2)
+words_again words (Release of n) is = rw is.2 (name_number_again Release of n is.0 is.1)
+words_again words (Reduce of n) is = rw is.2 (name_number_again Reduce of n is.0 is.1)
+words_again words (Drain of n) is = rw is.2 (name_number_again Drain of n is.0 is.1)
+words_again words (Forget name) is = rw is.1 (one_name_again Forget name is.0)
+words_again words (Split name made n) is = rw is.3 (two_names_number_again Split name made n is.0 is.1 is.2)
+words_again words (Merge kept spent) is = rw is.2 (two_names_again Merge kept spent is.0 is.1)
+words_again words (Status name) is = rw is.1 (one_name_again Status name is.0)
 
 -- a call is read only of a line that stands for it, and of each such line
 pub line_takes : (line : List ℕ) (call : Call) → call_of line ≡ Some call → IsLine line call
@@ -188,5 +233,29 @@ longest_call_line line (Poll name waker) is =
     let whole = length_from_words line _ is.2 in
     omega (arith, simp length-append at whole, length_of_name name is.0, length_of_number waker is.1)
 longest_call_line line (Drop name) is =
+    let whole = length_from_words line _ is.1 in
+    omega (arith, simp length-append at whole, length_of_name name is.0)
+longest_call_line line (Try made of n) is =
+    let whole = length_from_words line _ is.3 in
+    omega (arith, simp length-append at whole, length_of_name made is.0, length_of_name of is.1, length_of_number n is.2)
+longest_call_line line (Release of n) is =
+    let whole = length_from_words line _ is.2 in
+    omega (arith, simp length-append at whole, length_of_name of is.0, length_of_number n is.1)
+longest_call_line line (Reduce of n) is =
+    let whole = length_from_words line _ is.2 in
+    omega (arith, simp length-append at whole, length_of_name of is.0, length_of_number n is.1)
+longest_call_line line (Drain of n) is =
+    let whole = length_from_words line _ is.2 in
+    omega (arith, simp length-append at whole, length_of_name of is.0, length_of_number n is.1)
+longest_call_line line (Forget name) is =
+    let whole = length_from_words line _ is.1 in
+    omega (arith, simp length-append at whole, length_of_name name is.0)
+longest_call_line line (Split name made n) is =
+    let whole = length_from_words line _ is.3 in
+    omega (arith, simp length-append at whole, length_of_name name is.0, length_of_name made is.1, length_of_number n is.2)
+longest_call_line line (Merge kept spent) is =
+    let whole = length_from_words line _ is.2 in
+    omega (arith, simp length-append at whole, length_of_name kept is.0, length_of_name spent is.1)
+longest_call_line line (Status name) is =
     let whole = length_from_words line _ is.1 in
     omega (arith, simp length-append at whole, length_of_name name is.0)

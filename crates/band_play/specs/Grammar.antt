@@ -3,7 +3,7 @@ use Rattle.std.specs.Prelude.{◌≡◌, ℕ, ◌^◌, ◌<◌, List, [], ◌∷
 use Rattle.std.specs.Fmt.{decimal}
 use Rattle.std.specs.Str.{bytes_eq}
 use Rattle.band_play.specs.declared.call.Call.{Call}
-use Rattle.band_play.specs.declared.call.Call.TheVariants.{Sem, Ask, Poll, Drop}
+use Rattle.band_play.specs.declared.call.Call.TheVariants.{Sem, Ask, Poll, Drop, Try, Release, Reduce, Drain, Forget, Split, Merge, Status}
 use Rattle.band_play.specs.Name.{IsName}
 use Rattle.band_play.specs.Words.{words_of, word_at, name_at, number_at, end_with, ◌>>=◌}
 
@@ -18,17 +18,43 @@ IsForm words (Ask made of n waker) =
     IsName made × IsName of × IsNumber n × IsNumber waker × (words ≡ codes "ask" ∷ made ∷ of ∷ decimal n ∷ decimal waker ∷ [])
 IsForm words (Poll name waker) = IsName name × IsNumber waker × (words ≡ codes "poll" ∷ name ∷ decimal waker ∷ [])
 IsForm words (Drop name) = IsName name × (words ≡ codes "drop" ∷ name ∷ [])
+IsForm words (Try made of n) = IsName made × IsName of × IsNumber n × (words ≡ codes "try" ∷ made ∷ of ∷ decimal n ∷ [])
+IsForm words (Release of n) = IsName of × IsNumber n × (words ≡ codes "release" ∷ of ∷ decimal n ∷ [])
+IsForm words (Reduce of n) = IsName of × IsNumber n × (words ≡ codes "reduce" ∷ of ∷ decimal n ∷ [])
+IsForm words (Drain of n) = IsName of × IsNumber n × (words ≡ codes "drain" ∷ of ∷ decimal n ∷ [])
+IsForm words (Forget name) = IsName name × (words ≡ codes "forget" ∷ name ∷ [])
+IsForm words (Split name made n) = IsName name × IsName made × IsNumber n × (words ≡ codes "split" ∷ name ∷ made ∷ decimal n ∷ [])
+IsForm words (Merge kept spent) = IsName kept × IsName spent × (words ≡ codes "merge" ∷ kept ∷ spent ∷ [])
+IsForm words (Status name) = IsName name × (words ≡ codes "status" ∷ name ∷ [])
 
 -- a line stands for a call
 abbrev pub IsLine : List ℕ → Call → Type 0
 IsLine line call = IsForm (words_of line) call
 
--- what the words after the first are, form by form
-unfoldable pub sem_of : List (List ℕ) → Option Call
-sem_of words = do
-  made ← name_at words
-  n ← number_at made.1
-  end_with n.1 (Sem made.0 n.0)
+-- what the words after the first are, by what a call is made of
+unfoldable pub one_name_of : (List ℕ → Call) → List (List ℕ) → Option Call
+one_name_of make words = do
+  name ← name_at words
+  end_with name.1 (make name.0)
+
+unfoldable pub two_names_of : (List ℕ → List ℕ → Call) → List (List ℕ) → Option Call
+two_names_of make words = do
+  first ← name_at words
+  second ← name_at first.1
+  end_with second.1 (make first.0 second.0)
+
+unfoldable pub name_number_of : (List ℕ → ℕ → Call) → List (List ℕ) → Option Call
+name_number_of make words = do
+  name ← name_at words
+  n ← number_at name.1
+  end_with n.1 (make name.0 n.0)
+
+unfoldable pub two_names_number_of : (List ℕ → List ℕ → ℕ → Call) → List (List ℕ) → Option Call
+two_names_number_of make words = do
+  first ← name_at words
+  second ← name_at first.1
+  n ← number_at second.1
+  end_with n.1 (make first.0 second.0 n.0)
 
 unfoldable pub ask_of : List (List ℕ) → Option Call
 ask_of words = do
@@ -38,24 +64,21 @@ ask_of words = do
   waker ← number_at n.1
   end_with waker.1 (Ask made.0 of.0 n.0 waker.0)
 
-unfoldable pub poll_of : List (List ℕ) → Option Call
-poll_of words = do
-  name ← name_at words
-  waker ← number_at name.1
-  end_with waker.1 (Poll name.0 waker.0)
-
-unfoldable pub drop_of : List (List ℕ) → Option Call
-drop_of words = do
-  name ← name_at words
-  end_with name.1 (Drop name.0)
-
 -- the first word says which form it is
 unfoldable pub form_of : List ℕ → List (List ℕ) → Option Call
 form_of form words =
-    if bytes_eq form (codes "sem") then sem_of words else
+    if bytes_eq form (codes "sem") then name_number_of Sem words else
     if bytes_eq form (codes "ask") then ask_of words else
-    if bytes_eq form (codes "poll") then poll_of words else
-    if bytes_eq form (codes "drop") then drop_of words else
+    if bytes_eq form (codes "poll") then name_number_of Poll words else
+    if bytes_eq form (codes "drop") then one_name_of Drop words else
+    if bytes_eq form (codes "try") then two_names_number_of Try words else
+    if bytes_eq form (codes "release") then name_number_of Release words else
+    if bytes_eq form (codes "reduce") then name_number_of Reduce words else
+    if bytes_eq form (codes "drain") then name_number_of Drain words else
+    if bytes_eq form (codes "forget") then one_name_of Forget words else
+    if bytes_eq form (codes "split") then two_names_number_of Split words else
+    if bytes_eq form (codes "merge") then two_names_of Merge words else
+    if bytes_eq form (codes "status") then one_name_of Status words else
     None
 
 -- the call that a line stands for, if it stands for one

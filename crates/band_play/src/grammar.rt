@@ -2,7 +2,7 @@
 ghost use Rattle.std.specs.Prelude.{◌≡◌, ◌≤◌, List, ℕ, length, IfSome, IfNone};
 ghost use Rattle.band_play.specs.declared.call.Call.{Call as TheCall};
 ghost use Rattle.band_play.specs.Left.{words_left};
-ghost use Rattle.band_play.specs.Grammar.{IsLine, call_of, form_of, sem_of, ask_of, poll_of, drop_of};
+ghost use Rattle.band_play.specs.Grammar.{IsLine, call_of, form_of, one_name_of, two_names_of, name_number_of, two_names_number_of, ask_of};
 
 use crate::Call;
 use crate::words::Words;
@@ -37,14 +37,30 @@ fn parse_form(form: &[u8], words: &mut Words) -> Option<Call>
         parse_poll(words)
     } else if form == b"drop".as_slice() {
         parse_drop(words)
+    } else if form == b"try".as_slice() {
+        parse_try(words)
+    } else if form == b"release".as_slice() {
+        parse_release(words)
+    } else if form == b"reduce".as_slice() {
+        parse_reduce(words)
+    } else if form == b"drain".as_slice() {
+        parse_drain(words)
+    } else if form == b"forget".as_slice() {
+        parse_forget(words)
+    } else if form == b"split".as_slice() {
+        parse_split(words)
+    } else if form == b"merge".as_slice() {
+        parse_merge(words)
+    } else if form == b"status".as_slice() {
+        parse_status(words)
     } else {
         None
     }
 }
 
-#[tactic(auto, unfolding(crate::specs::Grammar::sem_of))]
+#[tactic(auto, unfolding(crate::specs::Grammar::name_number_of))]
 fn parse_sem(words: &mut Words) -> Option<Call>
-    ensures { result ≡ sem_of (words_left words.old) }
+    ensures { result ≡ name_number_of Call.Sem (words_left words.old) }
 {
     let made = words.name()?;
     let n = words.number()?;
@@ -62,21 +78,93 @@ fn parse_ask(words: &mut Words) -> Option<Call>
     words.end_with(Call::Ask { made, of, n, waker })
 }
 
-#[tactic(auto, unfolding(crate::specs::Grammar::poll_of))]
+#[tactic(auto, unfolding(crate::specs::Grammar::name_number_of))]
 fn parse_poll(words: &mut Words) -> Option<Call>
-    ensures { result ≡ poll_of (words_left words.old) }
+    ensures { result ≡ name_number_of Call.Poll (words_left words.old) }
 {
     let name = words.name()?;
     let waker = words.number()?;
     words.end_with(Call::Poll { name, waker })
 }
 
-#[tactic(auto, unfolding(crate::specs::Grammar::drop_of))]
+#[tactic(auto, unfolding(crate::specs::Grammar::one_name_of))]
 fn parse_drop(words: &mut Words) -> Option<Call>
-    ensures { result ≡ drop_of (words_left words.old) }
+    ensures { result ≡ one_name_of Call.Drop (words_left words.old) }
 {
     let name = words.name()?;
     words.end_with(Call::Drop { name })
+}
+
+#[tactic(auto, unfolding(crate::specs::Grammar::two_names_number_of))]
+fn parse_try(words: &mut Words) -> Option<Call>
+    ensures { result ≡ two_names_number_of Call.Try (words_left words.old) }
+{
+    let made = words.name()?;
+    let of = words.name()?;
+    let n = words.number()?;
+    words.end_with(Call::Try { made, of, n })
+}
+
+#[tactic(auto, unfolding(crate::specs::Grammar::name_number_of))]
+fn parse_release(words: &mut Words) -> Option<Call>
+    ensures { result ≡ name_number_of Call.Release (words_left words.old) }
+{
+    let of = words.name()?;
+    let n = words.number()?;
+    words.end_with(Call::Release { of, n })
+}
+
+#[tactic(auto, unfolding(crate::specs::Grammar::name_number_of))]
+fn parse_reduce(words: &mut Words) -> Option<Call>
+    ensures { result ≡ name_number_of Call.Reduce (words_left words.old) }
+{
+    let of = words.name()?;
+    let n = words.number()?;
+    words.end_with(Call::Reduce { of, n })
+}
+
+#[tactic(auto, unfolding(crate::specs::Grammar::name_number_of))]
+fn parse_drain(words: &mut Words) -> Option<Call>
+    ensures { result ≡ name_number_of Call.Drain (words_left words.old) }
+{
+    let of = words.name()?;
+    let n = words.number()?;
+    words.end_with(Call::Drain { of, n })
+}
+
+#[tactic(auto, unfolding(crate::specs::Grammar::one_name_of))]
+fn parse_forget(words: &mut Words) -> Option<Call>
+    ensures { result ≡ one_name_of Call.Forget (words_left words.old) }
+{
+    let name = words.name()?;
+    words.end_with(Call::Forget { name })
+}
+
+#[tactic(auto, unfolding(crate::specs::Grammar::two_names_number_of))]
+fn parse_split(words: &mut Words) -> Option<Call>
+    ensures { result ≡ two_names_number_of Call.Split (words_left words.old) }
+{
+    let name = words.name()?;
+    let made = words.name()?;
+    let n = words.number()?;
+    words.end_with(Call::Split { name, made, n })
+}
+
+#[tactic(auto, unfolding(crate::specs::Grammar::two_names_of))]
+fn parse_merge(words: &mut Words) -> Option<Call>
+    ensures { result ≡ two_names_of Call.Merge (words_left words.old) }
+{
+    let kept = words.name()?;
+    let spent = words.name()?;
+    words.end_with(Call::Merge { kept, spent })
+}
+
+#[tactic(auto, unfolding(crate::specs::Grammar::one_name_of))]
+fn parse_status(words: &mut Words) -> Option<Call>
+    ensures { result ≡ one_name_of Call.Status (words_left words.old) }
+{
+    let name = words.name()?;
+    words.end_with(Call::Status { name })
 }
 
 /// No line stands for two calls.

@@ -52,6 +52,62 @@ fn reads_each_form(rt: HostRuntime) {
                 name: name(&rt, "_"),
             },
         ),
+        (
+            "try p s 3",
+            Call::Try {
+                made: name(&rt, "p"),
+                of: name(&rt, "s"),
+                n: 3,
+            },
+        ),
+        (
+            "release s 0",
+            Call::Release {
+                of: name(&rt, "s"),
+                n: 0,
+            },
+        ),
+        (
+            "reduce s 18446744073709551615",
+            Call::Reduce {
+                of: name(&rt, "s"),
+                n: 18446744073709551615,
+            },
+        ),
+        (
+            "drain s 10",
+            Call::Drain {
+                of: name(&rt, "s"),
+                n: 10,
+            },
+        ),
+        (
+            "forget p",
+            Call::Forget {
+                name: name(&rt, "p"),
+            },
+        ),
+        (
+            "split p q 2",
+            Call::Split {
+                name: name(&rt, "p"),
+                made: name(&rt, "q"),
+                n: 2,
+            },
+        ),
+        (
+            "merge p q",
+            Call::Merge {
+                kept: name(&rt, "p"),
+                spent: name(&rt, "q"),
+            },
+        ),
+        (
+            "status o",
+            Call::Status {
+                name: name(&rt, "o"),
+            },
+        ),
     ];
     for (line, call) in table {
         assert_eq!(rt; parse_line(line.as_bytes()), Some(call), "at {line}");
@@ -86,6 +142,14 @@ fn reads_no_other_line(rt: HostRuntime) {
         "poll a",
         "ask a s 1",
         "ask a s x 1",
+        "try p s",
+        "try p s 3 7",
+        "release s",
+        "drain 1",
+        "split p 1",
+        "merge p",
+        "merge p q 1",
+        "status",
     ];
     for line in lines {
         assert_eq!(rt; parse_line(line.as_bytes()), None, "at {line}");
