@@ -32,6 +32,7 @@ head_fits free (first ∷ rest) = int_le (pos first.size) free
 -- what holds while the line settles, too
 pub record IsKept (store : Store) : Type 0 where
   pub slots_rise : Rises 0 store.next_slot (requests (line_of store))
+  pub granted_sum : store.granted_sum ≡ total store.granted.items
   pub in_hand : total store.granted.items + store.held ≤ u64_max
   pub in_all : (store.free +ℤ pos (total store.granted.items + store.held)) ≤ℤ pos u64_max
   pub owed : neg_ℤ (pos u64_max) ≤ℤ store.free

@@ -3,12 +3,14 @@
 
 mod acquire;
 mod entry;
+mod errors;
 mod permit;
 mod refusal;
 mod semaphore;
 mod store;
 
 pub use acquire::Acquire;
+pub use errors::{MergeError, ReduceError, ReleaseError};
 pub use permit::SemaphorePermit;
 pub use refusal::Refusal;
 pub use semaphore::Semaphore;

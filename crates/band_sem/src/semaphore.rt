@@ -1,12 +1,12 @@
 //! The semaphore.
-ghost use Rattle.std.specs.Prelude.{◌≡◌, ◌+◌, ◌-◌, ◌≤◌, [], ◌∷◌, MatchOption};
-ghost use Rattle.band_balance.specs.Line.{open_line, give_back, cancel};
+ghost use Rattle.std.specs.Prelude.{◌≡◌, ◌+◌, ◌-◌, ◌<◌, ◌≤◌, ◌↔◌, [], ◌∷◌, length, IsTrue, IsSome, IfSome, OnSome, IfNone, IsErrOf, OnOk, OnErr, MatchOption};
+ghost use Rattle.band_balance.specs.Line.{open_line, total, available, drained, overflows, owes_too_much, is_served, take_permits, give_back, cancel};
 ghost use Rattle.band_sem.specs.declared.acquire.Stage.{Stage};
 ghost use Rattle.band_sem.specs.Semaphore.{SemaphoreState, IsLawful, is_slot, with_wakes};
 ghost use Rattle.band_sem.specs.Store.{Enters, PollsSlot};
 
 use crate::store::{Entrance, Store};
-use crate::{Acquire, SemaphorePermit};
+use crate::{Acquire, ReduceError, ReleaseError, SemaphorePermit};
 use band_base::{Steps, Waker};
 use std::alloc::{AllocError, Global};
 use std::marker::Model;
@@ -47,11 +47,133 @@ impl Semaphore {
         self.store.number()
     }
 
+    /// How many may be taken without waiting: none while a request waits.
+    pub fn available_permits(&self) -> u64
+        ensures { result ≡ available self.now.line }
+    {
+        self.store.available()
+    }
+
+    /// What nobody has, less what is owed (own).
+    pub fn free(&self) -> i128
+        ensures { result ≡ self.now.line.free }
+    {
+        self.store.free()
+    }
+
+    /// How many requests wait (own).
+    pub fn waiting_count(&self) -> u64
+        ensures { result ≡ length self.now.line.waiting }
+    {
+        self.store.waiting_count()
+    }
+
+    /// How many permits were granted to requests that have not polled since. It looks at no request (own).
+    pub fn granted_permits(&self) -> u64
+        ensures { result ≡ total self.now.line.granted }
+    {
+        self.store.granted_sum()
+    }
+
+    /// How many permits tokens stand for (own).
+    pub fn held_permits(&self) -> u64
+        ensures { result ≡ self.now.held }
+    {
+        self.store.held()
+    }
+
     /// A request for `n` permits, not polled yet.
     pub fn acquire(&self, n: u64) -> Acquire
         ensures { result ≡ record { of = self.now.number; size = n; stage = Stage.NotPolled } }
     {
         Acquire::new(self.number(), n)
+    }
+
+    /// Takes `n` permits if they are there and nobody waits. It never joins the line.
+    pub fn try_acquire(&mut self, n: u64) -> Option<SemaphorePermit>
+        ensures served { IsSome result ↔ IsTrue (is_served n self.old.line) }
+        ensures permit { IfSome result (λ permit. permit ≡ record { of = self.old.number; count = n }) }
+        ensures some { OnSome result (self.new ≡ record self.old { line = take_permits n self.old.line; held = self.old.held + n }) }
+        ensures none { IfNone result (self.new ≡ self.old) }
+        ensures lawful { IsLawful self.new.line self.new.held }
+    {
+        if self.store.try_serve(n) {
+            return Some(SemaphorePermit::new(self.number(), n));
+        }
+        None
+    }
+
+    /// Takes away what is available, `up_to` at most, and tells how many.
+    pub fn drain_permits(&mut self, up_to: u64) -> u64
+        ensures count { result ≡ drained up_to self.old.line }
+        ensures state { self.new ≡ record self.old { line = take_permits result self.old.line } }
+        ensures lawful { IsLawful self.new.line self.new.held }
+    {
+        self.store.drain(up_to)
+    }
+
+    /// Adds `n` permits, which first pay what is owed. Then the line settles.
+    pub fn release<L: Ledger>(&mut self, n: u64, steps: &mut Steps<L>) -> Result<(), ReleaseError>
+        ensures overflow { IsErrOf result ReleaseError.Overflow ↔ IsTrue (overflows n self.old.line self.old.held) }
+        ensures ok { OnOk result (self.new ≡ record self.old { line = give_back n self.old.line }) }
+        ensures err { OnErr result (self.new ≡ self.old) }
+        ensures lawful { IsLawful self.new.line self.new.held }
+    {
+        if self.store.release(n) {
+            Ok(())
+        } else {
+            Err(ReleaseError::Overflow)
+        }
+    }
+
+    /// Takes `n` permits away, also from under the line. What is not there is owed.
+    pub fn reduce_permits<L: Ledger>(
+        &mut self,
+        n: u64,
+        steps: &mut Steps<L>,
+    ) -> Result<(), ReduceError>
+        ensures debt { IsErrOf result ReduceError.Debt ↔ IsTrue (owes_too_much n self.old.line) }
+        ensures no_memory { IsErrOf result ReduceError.NoMemory → available self.old.line < n }
+        ensures ok { OnOk result (self.new ≡ record self.old { line = take_permits n self.old.line }) }
+        ensures err { OnErr result (self.new ≡ self.old) }
+        ensures lawful { IsLawful self.new.line self.new.held }
+    {
+        if self.store.reduce(n) {
+            Ok(())
+        } else {
+            Err(ReduceError::Debt)
+        }
+    }
+
+    /// Gives back what a permit has beyond `keep`. Then the line settles.
+    pub fn shrink<L: Ledger>(
+        &mut self,
+        p: SemaphorePermit,
+        keep: u64,
+        steps: &mut Steps<L>,
+    ) -> SemaphorePermit
+        requires number { p.of ≡ self.old.number }
+        requires held { p.count ≤ self.old.held }
+        requires keep { keep ≤ p.count }
+        ensures permit { result ≡ record p { count = keep } }
+        ensures state { self.new ≡ record self.old { line = give_back (p.count - keep) self.old.line; held = self.old.held - (p.count - keep) } }
+        ensures lawful { IsLawful self.new.line self.new.held }
+    {
+        self.store.give_back(p.permits() - keep);
+        let kept = SemaphorePermit::new(p.of(), keep);
+        p.lose();
+        kept
+    }
+
+    /// Ends a permit without giving it back: there are fewer permits from then on.
+    pub fn forget(&mut self, p: SemaphorePermit)
+        requires number { p.of ≡ self.old.number }
+        requires held { p.count ≤ self.old.held }
+        ensures state { self.new ≡ record self.old { held = self.old.held - p.count } }
+        ensures lawful { IsLawful self.new.line self.new.held }
+    {
+        self.store.forget(p.permits());
+        p.lose();
     }
 
     /// Gives a permit back. Then the line settles.

@@ -1,6 +1,7 @@
 //! What a semaphore keeps: its counts, its line, and the wakers to wake.
-ghost use Rattle.std.specs.Prelude.{◌≡◌, ◌+◌, ◌-◌, ◌<◌, ◌≤◌, false, true, length, IsTrue, OnOk, MatchOption, position, [], ◌∷◌};
-ghost use Rattle.band_balance.specs.Line.{open_line, is_served, take_permits, add_permits, join, settle, give_back, withdraw, cancel, entry_named, poll_waiting};
+ghost use Rattle.std.specs.Prelude.{◌≡◌, ◌+◌, ◌-◌, ◌<◌, ◌≤◌, ◌↔◌, false, true, length, IsTrue, OnOk, MatchOption, position, pos, ◌+ℤ◌, [], ◌∷◌};
+ghost use Rattle.std.specs.Bool.{OnTrue};
+ghost use Rattle.band_balance.specs.Line.{open_line, total, available, drained, overflows, owes_too_much, is_served, take_permits, add_permits, join, settle, give_back, withdraw, cancel, entry_named, poll_waiting};
 ghost use Rattle.band_sem.specs.Semaphore.{is_slot, with_wakes};
 ghost use Rattle.band_sem.specs.Store.{line_of, state_of, IsKept, IsSound, IsRoomy, head_fits, Enters, PollsSlot, TakesGranted};
 
@@ -26,6 +27,7 @@ pub(crate) struct Store {
     held: u64,
     waiting: VecDeque<Waits>,
     granted: VecDeque<Grant>,
+    granted_sum: u64,
     wakes: WakeLine,
     next_slot: u64,
 }
@@ -42,6 +44,7 @@ impl Store {
             held: 0,
             waiting: VecDeque::new(alloc),
             granted: VecDeque::new(alloc),
+            granted_sum: 0,
             wakes: WakeLine::new(alloc),
             next_slot: 0,
         }
@@ -51,6 +54,43 @@ impl Store {
         ensures { result ≡ self.now.number }
     {
         self.number
+    }
+
+    pub(crate) fn free(&self) -> i128
+        ensures { result ≡ self.now.free }
+    {
+        self.free
+    }
+
+    pub(crate) fn held(&self) -> u64
+        ensures { result ≡ self.now.held }
+    {
+        self.held
+    }
+
+    pub(crate) fn granted_sum(&self) -> u64
+        requires { IsSound self.now }
+        ensures { result ≡ total self.now.granted.items }
+    {
+        self.granted_sum
+    }
+
+    pub(crate) fn waiting_count(&self) -> u64
+        ensures { result ≡ length self.now.waiting.items }
+    {
+        self.waiting.len() as u64
+    }
+
+    /// How many may be taken without waiting.
+    pub(crate) fn available(&self) -> u64
+        requires { IsSound self.now }
+        ensures { result ≡ available (line_of self.now) }
+    {
+        if self.waiting.is_empty() && self.free > 0 {
+            self.free as u64
+        } else {
+            0
+        }
     }
 
     /// Takes the oldest waker to wake.
@@ -78,6 +118,65 @@ impl Store {
     {
         self.free -= i128::from(size);
         self.held += size;
+    }
+
+    /// Serves at once, or changes nothing.
+    pub(crate) fn try_serve(&mut self, size: u64) -> bool
+        requires { IsSound self.old }
+        ensures served { result ≡ is_served size (line_of self.old) }
+        ensures yes { OnTrue result (state_of self.new ≡ record (state_of self.old) { line = take_permits size (line_of self.old); held = self.old.held + size }) }
+        ensures no { result ≡ false → state_of self.new ≡ state_of self.old }
+        ensures sound { IsSound self.new }
+    {
+        if self.serves(size) {
+            self.serve(size);
+            return true;
+        }
+        false
+    }
+
+    /// Takes permits from the free ones, into debt where there are not as many.
+    fn take(&mut self, count: u64)
+        requires sound { IsSound self.old }
+        requires debt { owes_too_much count (line_of self.old) ≡ false }
+        ensures state { state_of self.new ≡ record (state_of self.old) { line = take_permits count (line_of self.old) } }
+        ensures sound { IsSound self.new }
+    {
+        self.free -= i128::from(count);
+    }
+
+    /// Takes what is available, and no more than `up_to`.
+    pub(crate) fn drain(&mut self, up_to: u64) -> u64
+        requires { IsSound self.old }
+        ensures count { result ≡ drained up_to (line_of self.old) }
+        ensures state { state_of self.new ≡ record (state_of self.old) { line = take_permits result (line_of self.old) } }
+        ensures sound { IsSound self.new }
+    {
+        let count = up_to.min(self.available());
+        self.take(count);
+        count
+    }
+
+    fn owes_too_much(&self, count: u64) -> bool
+        requires { IsSound self.now }
+        ensures { result ≡ owes_too_much count (line_of self.now) }
+    {
+        self.free - i128::from(count) < -i128::from(u64::MAX)
+    }
+
+    /// Takes permits from the free ones, into debt where there are not as many, or changes nothing where that is too much.
+    pub(crate) fn reduce(&mut self, count: u64) -> bool
+        requires { IsSound self.old }
+        ensures debt { result ≡ false ↔ IsTrue (owes_too_much count (line_of self.old)) }
+        ensures yes { OnTrue result (state_of self.new ≡ record (state_of self.old) { line = take_permits count (line_of self.old) }) }
+        ensures no { result ≡ false → state_of self.new ≡ state_of self.old }
+        ensures sound { IsSound self.new }
+    {
+        if self.owes_too_much(count) {
+            return false;
+        }
+        self.take(count);
+        true
     }
 
     /// Makes room for one request more, and for its grant and its wake later on.
@@ -148,6 +247,7 @@ impl Store {
     {
         if let Some(first) = self.waiting.pop_front() {
             self.free -= i128::from(first.size());
+            self.granted_sum += first.size();
             self.granted.push_back_reserved(first.granted());
             self.wakes.push(first.waker());
         }
@@ -164,6 +264,57 @@ impl Store {
         }
     }
 
+    /// All permits that there are: those free, granted and held.
+    fn in_all(&self) -> i128
+        requires { IsSound self.now }
+        ensures { result ≡ self.now.free +ℤ pos (total self.now.granted.items + self.now.held) }
+    {
+        self.free + i128::from(self.granted_sum) + i128::from(self.held)
+    }
+
+    fn overflows(&self, count: u64) -> bool
+        requires { IsSound self.now }
+        ensures { result ≡ overflows count (line_of self.now) self.now.held }
+    {
+        self.in_all() + i128::from(count) > i128::from(u64::MAX)
+    }
+
+    /// Adds permits to the free ones. Then the line settles.
+    fn add(&mut self, count: u64)
+        requires sound { IsSound self.old }
+        requires fits { overflows count (line_of self.old) self.old.held ≡ false }
+        ensures state { state_of self.new ≡ record (state_of self.old) { line = give_back count (line_of self.old) } }
+        ensures sound { IsSound self.new }
+    {
+        self.free += i128::from(count);
+        self.settle();
+    }
+
+    /// Adds permits, or changes nothing where they would be too many. Then the line settles.
+    pub(crate) fn release(&mut self, count: u64) -> bool
+        requires { IsSound self.old }
+        ensures overflow { result ≡ false ↔ IsTrue (overflows count (line_of self.old) self.old.held) }
+        ensures yes { OnTrue result (state_of self.new ≡ record (state_of self.old) { line = give_back count (line_of self.old) }) }
+        ensures no { result ≡ false → state_of self.new ≡ state_of self.old }
+        ensures sound { IsSound self.new }
+    {
+        if self.overflows(count) {
+            return false;
+        }
+        self.add(count);
+        true
+    }
+
+    /// Permits that were held are no more.
+    pub(crate) fn forget(&mut self, count: u64)
+        requires sound { IsSound self.old }
+        requires held { count ≤ self.old.held }
+        ensures state { state_of self.new ≡ record (state_of self.old) { held = self.old.held - count } }
+        ensures sound { IsSound self.new }
+    {
+        self.held -= count;
+    }
+
     /// Gives back permits that were held.
     pub(crate) fn give_back(&mut self, count: u64)
         requires sound { IsSound self.old }
@@ -171,9 +322,8 @@ impl Store {
         ensures state { state_of self.new ≡ record (state_of self.old) { line = give_back count (line_of self.old); held = self.old.held - count } }
         ensures sound { IsSound self.new }
     {
-        self.free += i128::from(count);
-        self.held -= count;
-        self.settle();
+        self.forget(count);
+        self.add(count);
     }
 
     fn place_granted(&self, slot: u64) -> Option<usize>
@@ -198,7 +348,9 @@ impl Store {
     {
         if let Some(place) = self.place_granted(slot) {
             if let Some(grant) = self.granted.remove(place) {
-                return Some(grant.size());
+                let size = grant.size();
+                self.granted_sum -= size;
+                return Some(size);
             }
         }
         None

@@ -31,6 +31,7 @@ returns-in-Some-clause-sound c =
     record {
       kept = record {
         slots_rise = rw (written c, entries-leave_waker (is_slot c.args.slot) c.args.waker.0 s.waiting.items) kept.slots_rise;
+        granted_sum = kept.granted_sum;
         in_hand = kept.in_hand;
         in_all = kept.in_all;
         owed = kept.owed;

@@ -13,6 +13,7 @@ returns-clause-sound c =
     record {
       kept = record {
         slots_rise = rw c.push_back_reserved.ensures.items (Rises-join 0 s.next_slot s.granted.items s.waiting.items w (ap (λ v. v.name) c.new.ensures) kept.slots_rise);
+        granted_sum = kept.granted_sum;
         in_hand = kept.in_hand;
         in_all = kept.in_all;
         owed = kept.owed;

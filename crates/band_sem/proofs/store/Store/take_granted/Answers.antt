@@ -16,26 +16,26 @@ same_name a b h = grind (arith, nat_tests)
 entry_is : (e : Entry ℕ) (name size : ℕ) → e.name ≡ name → size ≡ e.size → e ≡ record { name = name; size = size }
 entry_is e name size p q = rw (← p, q) refl
 
-first : (c : goal.After-size) → IsFirst (λ e. is_slot c.args.slot e.name) c.args.self.now.granted.items c.in-Some.place c.in-Some-remove.grant
+first : (c : goal.After-self-1) → IsFirst (λ e. is_slot c.args.slot e.name) c.args.self.now.granted.items c.in-Some.place c.in-Some-remove.grant
 first c = IsFirst-position _ _ _ _ (sym c.place_granted.ensures ∙ c.in-Some.is)
 
-removed : (c : goal.After-size) → c.remove.new.self.items ≡ remove c.args.self.now.granted.items c.in-Some.place
+removed : (c : goal.After-self-1) → c.remove.new.self.items ≡ remove c.args.self.now.granted.items c.in-Some.place
 removed c = OnSome-holds _ _ _ c.in-Some-remove.is c.remove.ensures.items
 
-left : (c : goal.After-size) → c.remove.new.self.items ≡ without (is_slot c.args.slot) c.args.self.now.granted.items
+left : (c : goal.After-self-1) → c.remove.new.self.items ≡ without (is_slot c.args.slot) c.args.self.now.granted.items
 left c = removed c ∙ sym (without-first (is_slot c.args.slot) c.args.self.now.granted.items c.in-Some.place _ (first c))
 
-sized : (c : goal.After-size) → total c.remove.new.self.items + c.size.result ≡ total c.args.self.now.granted.items
+sized : (c : goal.After-self-1) → total c.remove.new.self.items + c.size-size.result ≡ total c.args.self.now.granted.items
 sized c =
     let g = c.in-Some-remove.grant in
-    rw (removed c, c.size.ensures, c.in-Some-remove.ensures.value) (sum_by-remove (λ e. e.size) c.args.self.now.granted.items c.in-Some.place g (first c).within)
+    rw (removed c, c.size-size.ensures, c.in-Some-remove.ensures.value) (sum_by-remove (λ e. e.size) c.args.self.now.granted.items c.in-Some.place g (first c).within)
 
-named : (c : goal.After-size) → entry_named (is_slot c.args.slot) c.args.self.now.granted.items ≡ Some (record { name = c.args.slot; size = c.size.result })
+named : (c : goal.After-self-1) → entry_named (is_slot c.args.slot) c.args.self.now.granted.items ≡ Some (record { name = c.args.slot; size = c.size-size.result })
 named c =
     let g = c.in-Some-remove.grant in
     let same : g.name ≡ c.args.slot = ap (λ e. e.name) c.in-Some-remove.ensures.value ∙ same_name c.args.slot _ (first c).passes in
     find-first (λ e. is_slot c.args.slot e.name) c.args.self.now.granted.items c.in-Some.place g (first c)
-    ∙ ap Some (sym c.in-Some-remove.ensures.value ∙ entry_is g c.args.slot c.size.result same c.size.ensures)
+    ∙ ap Some (sym c.in-Some-remove.ensures.value ∙ entry_is g c.args.slot c.size-size.result same c.size-size.ensures)
 
 pub returns-in-Some-remove-clause-takes : goal.returns-in-Some-remove-clause-takes
 returns-in-Some-remove-clause-takes c =
@@ -54,6 +54,7 @@ returns-in-Some-remove-clause-sound c =
     record {
       kept = record {
         slots_rise = rw (left c) (Rises-without (is_slot c.args.slot) 0 s.next_slot s.granted.items _ kept.slots_rise);
+        granted_sum = omega (arith, kept.granted_sum);
         in_hand = omega (arith, kept.in_hand);
         in_all = omega (arith, ints, kept.in_all);
         owed = kept.owed;

@@ -30,6 +30,7 @@ returns-in-Some-clause-kept c =
     let shorter = length-remove s.waiting.items c.in-Some.place (first c).within in
     record {
       slots_rise = rw (left c) (Rises-without_waiting (is_slot c.args.slot) 0 s.next_slot s.granted.items s.waiting.items kept.slots_rise);
+      granted_sum = kept.granted_sum;
       in_hand = kept.in_hand;
       in_all = kept.in_all;
       owed = kept.owed;
