@@ -1,4 +1,5 @@
 pub mod Asking
+pub mod Called
 pub mod Calling
 pub mod Change
 pub mod Distinct

@@ -50,6 +50,11 @@ impl Player {
             }
             Call::Poll { name, waker } => Ok(self.table.poll(name, Waker(*waker), steps)),
             Call::Drop { name } => Ok(self.table.drop_name(name, steps)),
+            Call::Try { made, of, n } => self.table.try_for(made, of, *n),
+            Call::Release { of, n } => Ok(self.table.release(of, *n, steps)),
+            Call::Reduce { of, n } => self.table.reduce(of, *n, steps),
+            Call::Drain { of, n } => Ok(self.table.drain(of, *n)),
+            Call::Status { name } => Ok(self.table.status(name)),
             _ => Ok(Reply::Refused(band_sem::Refusal::Unknown)),
         }
     }

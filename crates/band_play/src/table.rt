@@ -2,7 +2,7 @@
 ghost use Rattle.std.specs.Prelude.{◌≡◌, [], OnOk, IfOk, OnErr, IfNone, IfSome, MatchOption, ◌∷◌, ◌<◌, length, None, Some};
 ghost use Rattle.band_balance.specs.Object.{new_semaphore};
 ghost use Rattle.band_sem.specs.declared.acquire.Stage.{Stage};
-ghost use Rattle.band_play.specs.Step.{making, asking, polling, dropping};
+ghost use Rattle.band_play.specs.Step.{making, asking, polling, dropping, trying, releasing, reducing, draining, showing};
 ghost use Rattle.band_play.specs.State.{standing};
 ghost use Rattle.band_play.specs.Names.{thing_at};
 ghost use Rattle.std.specs.BTreeMap.{IsUnchanged};
@@ -14,7 +14,7 @@ use crate::names::{self, Names};
 use crate::thing::Thing;
 use crate::{Name, Reply};
 use band_base::{Poll, Steps, Waker};
-use band_sem::{Refusal, Semaphore};
+use band_sem::{ReduceError, Refusal, Semaphore};
 use std::alloc::{AllocError, Global};
 use std::collections::BTreeMap;
 use std::mem;
@@ -197,6 +197,117 @@ impl Table {
         self.last = thing.place();
         thing.drop_from(&mut self.objects, steps);
         Reply::Done
+    }
+
+    /// Takes permits of a semaphore without waiting.
+    pub(crate) fn try_for(&mut self, made: &Name, of: &Name, n: u64) -> Result<Reply, AllocError>
+        requires sound { IsSound self.old }
+        requires quiet { wakes_left self.old ≡ [] }
+        ensures follows { IfOk result (λ reply. Follows (λ state. trying (standing of.now state) made.now n state) self.old reply self.new) }
+        ensures err { OnErr result (Stays self.old self.new) }
+        ensures sound { IsSound self.new }
+    {
+        let place = match object_at(&self.names, of) {
+            Ok(place) => place,
+            Err(refusal) => return Ok(Reply::Refused(refusal)),
+        };
+        if names::is_live(&self.names, made) {
+            return Ok(Reply::Refused(Refusal::Taken));
+        }
+        names::reserve(&mut self.names, made)?;
+        let semaphore = &mut self.objects[place as usize];
+        match semaphore.try_acquire(n) {
+            Some(permit) => {
+                names::set(&mut self.names, made, Thing::Permit(permit));
+                self.last = place;
+                Ok(Reply::Done)
+            }
+            None => {
+                names::forget(&mut self.names, made);
+                Ok(Reply::Nothing)
+            }
+        }
+    }
+
+    /// Adds permits to a semaphore.
+    pub(crate) fn release<L: Ledger>(&mut self, of: &Name, n: u64, steps: &mut Steps<L>) -> Reply
+        requires sound { IsSound self.old }
+        requires quiet { wakes_left self.old ≡ [] }
+        ensures follows { Follows (λ state. releasing (standing of.now state) n state) self.old result self.new }
+        ensures sound { IsSound self.new }
+    {
+        let place = match object_at(&self.names, of) {
+            Ok(place) => place,
+            Err(refusal) => return Reply::Refused(refusal),
+        };
+        self.last = place;
+        let semaphore = &mut self.objects[place as usize];
+        match semaphore.release(n, steps) {
+            Ok(()) => Reply::Done,
+            Err(_) => Reply::Refused(Refusal::Overflow),
+        }
+    }
+
+    /// Takes permits away from a semaphore.
+    pub(crate) fn reduce<L: Ledger>(
+        &mut self,
+        of: &Name,
+        n: u64,
+        steps: &mut Steps<L>,
+    ) -> Result<Reply, AllocError>
+        requires sound { IsSound self.old }
+        requires quiet { wakes_left self.old ≡ [] }
+        ensures follows { IfOk result (λ reply. Follows (λ state. reducing (standing of.now state) n state) self.old reply self.new) }
+        ensures err { OnErr result (Stays self.old self.new) }
+        ensures sound { IsSound self.new }
+    {
+        let place = match object_at(&self.names, of) {
+            Ok(place) => place,
+            Err(refusal) => return Ok(Reply::Refused(refusal)),
+        };
+        self.last = place;
+        let semaphore = &mut self.objects[place as usize];
+        match semaphore.reduce_permits(n, steps) {
+            Ok(()) => Ok(Reply::Done),
+            Err(ReduceError::Debt) => Ok(Reply::Refused(Refusal::Debt)),
+            Err(ReduceError::NoMemory) => Err(AllocError),
+        }
+    }
+
+    /// Takes away what a semaphore has available.
+    pub(crate) fn drain(&mut self, of: &Name, n: u64) -> Reply
+        requires sound { IsSound self.old }
+        requires quiet { wakes_left self.old ≡ [] }
+        ensures follows { Follows (λ state. draining (standing of.now state) n state) self.old result self.new }
+        ensures sound { IsSound self.new }
+    {
+        let place = match object_at(&self.names, of) {
+            Ok(place) => place,
+            Err(refusal) => return Reply::Refused(refusal),
+        };
+        self.last = place;
+        let semaphore = &mut self.objects[place as usize];
+        Reply::Drained(semaphore.drain_permits(n))
+    }
+
+    /// The figures of an object.
+    pub(crate) fn status(&self, name: &Name) -> Reply
+        requires sound { IsSound self.now }
+        requires quiet { wakes_left self.now ≡ [] }
+        ensures { Follows (λ state. showing (standing name.now state) state) self.now result self.now }
+    {
+        let place = match object_at(&self.names, name) {
+            Ok(place) => place,
+            Err(refusal) => return Reply::Refused(refusal),
+        };
+        let semaphore = &self.objects[place as usize];
+        Reply::Figures {
+            available: semaphore.available_permits(),
+            free: semaphore.free(),
+            waiting: semaphore.waiting_count(),
+            granted: semaphore.granted_permits(),
+            held: semaphore.held_permits(),
+        }
     }
 
     /// Takes the oldest waker to wake of the object that was called last.

@@ -11,3 +11,18 @@ returns-in-Poll-clause-follows g c = rw c.in-Poll.is c.poll.ensures.follows
 
 pub returns-in-Drop-clause-follows : goal.returns-in-Drop-clause-follows
 returns-in-Drop-clause-follows g c = rw c.in-Drop.is c.drop_name.ensures.follows
+
+pub returns-in-Try-clause-follows : goal.returns-in-Try-clause-follows
+returns-in-Try-clause-follows g c = rw c.in-Try.is c.try_for.ensures.follows
+
+pub returns-in-Release-clause-follows : goal.returns-in-Release-clause-follows
+returns-in-Release-clause-follows g c = rw c.in-Release.is c.release.ensures.follows
+
+pub returns-in-Reduce-clause-follows : goal.returns-in-Reduce-clause-follows
+returns-in-Reduce-clause-follows g c = rw c.in-Reduce.is c.reduce.ensures.follows
+
+pub returns-in-Drain-clause-follows : goal.returns-in-Drain-clause-follows
+returns-in-Drain-clause-follows g c = rw c.in-Drain.is c.drain.ensures.follows
+
+pub returns-in-Status-clause-follows : goal.returns-in-Status-clause-follows
+returns-in-Status-clause-follows g c = rw c.in-Status.is c.status.ensures

@@ -1,0 +1,34 @@
+use Rattle.std.proofs.Common.{◌≡◌, Some, Ok, Err, true, false, refl, sym, ap, ◌∙◌, subst, arith, List, ℕ}
+use Rattle.std.specs.List.{slice_get, slice_set}
+use Rattle.std.specs.Vec.{with_item}
+use Rattle.std.proofs.lemmas.Option.{slice_get_read}
+use Rattle.std.proofs.lemmas.Bool.{false≢true}
+use Rattle.band_balance.specs.Line.{take_permits, give_back, drained, owes_too_much, is_served}
+use Rattle.band_sem.specs.Semaphore.{SemaphoreState, IsLawful}
+use Rattle.band_sem.specs.declared.errors.ReduceError.TheVariants.{Debt}
+use Rattle.band_sem.specs.declared.refusal.Refusal.TheVariants as refusals
+use Rattle.band_play.specs.declared.reply.Reply.{Reply}
+use Rattle.band_play.specs.declared.reply.Reply.TheVariants as replies
+use Rattle.band_play.specs.declared.thing.Thing.{Thing}
+use Rattle.band_play.specs.declared.thing.Thing.TheVariants as things
+use Rattle.band_play.specs.Names.{Updated, thing_at}
+use Rattle.band_play.specs.State.{State, Tag, standing}
+use Rattle.band_play.specs.Step.{reducing, draining, showing, trying}
+use Rattle.band_play.specs.Table.{StandsUnder}
+use Rattle.band_play.proofs.Called.{ok_no_err, refuses, shows, still_sound, still_stays, call_follows, call_sound, quiet_there, refuted, set_itself}
+use Rattle.band_play.proofs.Calling.{calling_refused, reduce_follows, reduce_owes, drain_follows, status_follows, try_taken, try_follows, try_fails}
+use Rattle.band_play.proofs.Follow.{Matches, same_table}
+use Rattle.band_play.proofs.Sound.{object_in, numbered_in}
+use Rattle.band_play.proofs.TableLemmas.{some_of, none_from, updated_twice, same_names, stays, sound_same, on_err}
+use Rattle.band_play.proofs.table.Table.status.Goals as goal
+
+pub returns-in-Err : goal.returns-in-Err
+returns-in-Err c =
+    refuses c.args.self.now c.requires.sound c.requires.quiet (λ state. showing (standing c.args.name.now state) state) c.in-Err.refusal c.args.self.now (λ n. refl) refl
+      (λ names state stands. calling_refused names _ _ state stands c.args.name.now c.in-Err.refusal _ (sym c.object_at.ensures ∙ c.in-Err.is))
+
+pub index-semaphore-requires : goal.index-semaphore-requires
+index-semaphore-requires c =
+    let within = object_in c.args.self.now c.args.name.now c.in-Ok.place c.requires.sound (sym c.object_at.ensures ∙ c.in-Ok.is) in
+    omega arith
+
