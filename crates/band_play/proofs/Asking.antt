@@ -37,9 +37,10 @@ others_from_none : (slot : ℕ) (entries : List (Entry ℕ)) → entry_named (is
 others_from_none slot [] none = tt
 others_from_none slot (e ∷ es) none = by_bool (is_slot slot e.name)
     (λ h. absurd (none-some e (sym none ∙ cond_true (is_slot slot e.name) (Some e) (entry_named (is_slot slot) es) h)))
-    (λ h.
-      (by_bool (e.name == slot) (λ k. absurd (false≢true (sym h ∙ ap (λ n. is_slot slot n) (eqb-true e.name slot k) ∙ slot_itself slot))) (λ k. k),
-       others_from_none slot es (sym (cond_false (is_slot slot e.name) (Some e) (entry_named (is_slot slot) es) h) ∙ none)))
+    (λ h. (
+      by_bool (e.name == slot) (λ k. absurd (false≢true (sym h ∙ ap (λ n. is_slot slot n) (eqb-true e.name slot k) ∙ slot_itself slot))) (λ k. k),
+      others_from_none slot es (sym (cond_false (is_slot slot e.name) (Some e) (entry_named (is_slot slot) es) h) ∙ none),
+    ))
   where
     slot_itself : (n : ℕ) → is_slot n n ≡ true
     slot_itself n = grind arith
@@ -79,7 +80,7 @@ module _ (names : ℕ → ℕ → Tag) (table table' : List ℕ → Option Thing
   not_held [] each = refl
   not_held (e ∷ es) each =
       cond_false (is_tag made e.name) (Some e) (entry_named (is_tag made) es)
-        (by_bool (is_tag made e.name) (λ h. absurd (false≢true (sym each.0 ∙ bytes_same e.name.name made (sym (same_bytes made e.name.name h))))) (λ h. h))
+      (by_bool (is_tag made e.name) (λ h. absurd (false≢true (sym each.0 ∙ bytes_same e.name.name made (sym (same_bytes made e.name.name h))))) (λ h. h))
       ∙ not_held es each.1
 
   found_last : (size : ℕ) (entries : List (Entry Tag)) → AllByRecursion (λ (e : Entry Tag). bytes_eq e.name.name made ≡ false) entries
@@ -108,23 +109,23 @@ module _ (names : ℕ → ℕ → Tag) (table table' : List ℕ → Option Thing
     pub asked_served : TurnsTo names table' sems state place served_sem named Ready (ask (permit_tag made) n waker named.object)
     asked_served =
         subst (λ (t : Turn Tag). TurnsTo names table' sems state place served_sem named Ready t)
-          (sym (cond_true (is_served n named.object.line) (turn Ready served_object) (turn Pending (record named.object { line = join (permit_tag made) n waker named.object.line })) (asked_test ∙ served)))
-          (turns_to names names table table' made _ sems state place sem served_sem named served_object stands update at_sem at_named other_names nowhere not_object
-            (ap (take_permits n) line_before) refl refl
-            (total-append named.object.held (record { name = permit_tag made; size = n } ∷ []) ∙ ap₂ (λ a b. a + b) here.held (zero-add n))
-            lawful
-            (all_weaker _ _ (λ (e : Entry ℕ) is. table_stays (names place e.name).name (request_at place e) is) (requests sem.line) here.each_request)
-            (all_of_both _ named.object.held (record { name = permit_tag made; size = n } ∷ [])
-              (all_weaker _ _ (λ (e : Entry Tag) is. table_stays e.name.name (permit_at place e) is) named.object.held here.each_held)
-              (update.here made (bytes_same made made refl), tt))
-            (once_push (λ (a b : Tag). bytes_eq a.name b.name) named.object.held (record { name = permit_tag made; size = n }) here.held_once held_apart)
-            (record {
-              name = refl;
-              request = λ name slot e other found called. (found, called);
-              permit = λ name e other found. found_before n name e named.object.held found;
-            })
-            (with_object named (quieted served_object), at_set_same state place named (with_object named (quieted served_object)) at_named, found_last n named.object.held held_apart)
-            Ready)
+        (sym (cond_true (is_served n named.object.line) (turn Ready served_object) (turn Pending (record named.object { line = join (permit_tag made) n waker named.object.line })) (asked_test ∙ served)))
+        (turns_to names names table table' made _ sems state place sem served_sem named served_object stands update at_sem at_named other_names nowhere not_object
+        (ap (take_permits n) line_before) refl refl
+        (total-append named.object.held (record { name = permit_tag made; size = n } ∷ []) ∙ ap₂ (λ a b. a + b) here.held (zero-add n))
+        lawful
+        (all_weaker _ _ (λ (e : Entry ℕ) is. table_stays (names place e.name).name (request_at place e) is) (requests sem.line) here.each_request)
+        (all_of_both _ named.object.held (record { name = permit_tag made; size = n } ∷ [])
+        (all_weaker _ _ (λ (e : Entry Tag) is. table_stays e.name.name (permit_at place e) is) named.object.held here.each_held)
+        (update.here made (bytes_same made made refl), tt))
+        (once_push (λ (a b : Tag). bytes_eq a.name b.name) named.object.held (record { name = permit_tag made; size = n }) here.held_once held_apart)
+        (record {
+          name = refl;
+          request = λ name slot e other found called. (found, called);
+          permit = λ name e other found. found_before n name e named.object.held found;
+        })
+        (with_object named (quieted served_object), at_set_same state place named (with_object named (quieted served_object)) at_named, found_last n named.object.held held_apart)
+        Ready)
 
   -- it joins under a slot that nobody has
   module _ (slot : ℕ) (waits : is_served n sem.line ≡ false) (fresh : entry_named (is_slot slot) (requests sem.line) ≡ None)
@@ -179,9 +180,9 @@ module _ (names : ℕ → ℕ → Tag) (table table' : List ℕ → Option Thing
     joined_requests : AllByRecursion (λ (e : Entry ℕ). table' (named_anew place e.name).name ≡ Some (request_at place e)) (requests joined_sem.line)
     joined_requests =
         rw (requests-join slot n waker sem.line)
-          (all_of_both _ (requests sem.line) (record { name = slot; size = n } ∷ [])
-            (both_facts (requests sem.line) here.each_request others)
-            (ap (λ (t : Tag). table' t.name) anew_slot ∙ update.here made (bytes_same made made refl), tt))
+        (all_of_both _ (requests sem.line) (record { name = slot; size = n } ∷ [])
+        (both_facts (requests sem.line) here.each_request others)
+        (ap (λ (t : Tag). table' t.name) anew_slot ∙ update.here made (bytes_same made made refl), tt))
 
     kept_slot : (s : ℕ) (e : Entry ℕ) → entry_named (is_slot s) (requests sem.line) ≡ Some e → (s == slot) ≡ false
     kept_slot s e found =
@@ -190,20 +191,25 @@ module _ (names : ℕ → ℕ → Tag) (table table' : List ℕ → Option Thing
     pub asked_joined : TurnsTo named_anew table' sems state place joined_sem named Pending (ask (permit_tag made) n waker named.object)
     asked_joined =
         subst (λ (t : Turn Tag). TurnsTo named_anew table' sems state place joined_sem named Pending t)
-          (sym (cond_false (is_served n named.object.line) (turn Ready (record named.object { line = take_permits n named.object.line; held = hold (permit_tag made) n named.object.held })) (turn Pending joined_object) (asked_test ∙ waits)))
-          (turns_to names named_anew table table' made _ sems state place sem joined_sem named joined_object stands update at_sem at_named anew_places nowhere not_object
-            joined_line refl refl here.held lawful joined_requests
-            (all_weaker _ _ (λ (e : Entry Tag) is. joined_table e.name.name (permit_at place e) is) named.object.held here.each_held)
-            here.held_once
-            (record {
-              name = refl;
-              request = λ name s e other found called.
-                (entry_named-join_other (is_slot s) slot n waker sem.line (kept_slot s e found) ∙ found, anew_other s (kept_slot s e found) ∙ called);
-              permit = λ name e other found. found;
-            })
-            (joined_sem, slot, at_set_same sems place sem joined_sem at_sem, refl,
-             entry_named-join_itself (is_slot slot) slot n waker sem.line (slot_itself slot) fresh, anew_slot)
-            Pending)
+        (sym (cond_false (is_served n named.object.line) (turn Ready (record named.object { line = take_permits n named.object.line; held = hold (permit_tag made) n named.object.held })) (turn Pending joined_object) (asked_test ∙ waits)))
+        (turns_to names named_anew table table' made _ sems state place sem joined_sem named joined_object stands update at_sem at_named anew_places nowhere not_object
+        joined_line refl refl here.held lawful joined_requests
+        (all_weaker _ _ (λ (e : Entry Tag) is. joined_table e.name.name (permit_at place e) is) named.object.held here.each_held)
+        here.held_once
+        (record {
+          name = refl;
+          request = λ name s e other found called.
+              (entry_named-join_other (is_slot s) slot n waker sem.line (kept_slot s e found) ∙ found, anew_other s (kept_slot s e found) ∙ called);
+          permit = λ name e other found. found;
+        }) (
+          joined_sem,
+          slot,
+          at_set_same sems place sem joined_sem at_sem,
+          refl,
+          entry_named-join_itself (is_slot slot) slot n waker sem.line (slot_itself slot) fresh,
+          anew_slot,
+        )
+        Pending)
       where
         slot_itself : (k : ℕ) → is_slot k k ≡ true
         slot_itself k = grind arith

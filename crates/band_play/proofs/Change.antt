@@ -35,8 +35,8 @@ module _ {table table' : List ℕ → Option Thing} {m : List ℕ} {w : Option T
   pub stays : (n : List ℕ) (thing : Thing) → (table m ≡ Some thing → ⊥) → table n ≡ Some thing → table' n ≡ Some thing
   stays n thing apart is =
       by_bool (bytes_eq m n)
-        (λ same. absurd (apart (ap table (same_bytes m n same) ∙ is)))
-        (λ other. update.others n other ∙ is)
+      (λ same. absurd (apart (ap table (same_bytes m n same) ∙ is)))
+      (λ other. update.others n other ∙ is)
 
   -- what stands at a place where the changed name wasn't
   pub stands_still : (names : ℕ → Tag) (place : ℕ) (sem : SemaphoreState) (named : Named) → (place_of (table m) ≡ Some place → ⊥) → StandsAt table names place sem named → StandsAt table' names place sem named
@@ -75,47 +75,49 @@ module _ (names names' : ℕ → ℕ → Tag) (table table' : List ℕ → Optio
   each_there : (j : ℕ) (s : SemaphoreState) (o : Named) → slice_get (slice_set sems place sem') j ≡ Some s → slice_get (slice_set state place named') j ≡ Some o → StandsAt table' (names' j) j s o
   each_there j s o there_sem there_named =
       by_place j
-        (λ same.
-          let sem_is : sem' ≡ s = same_Some sem' s (sym (at_set_same sems place sem sem' at_sem) ∙ ap (slice_get (slice_set sems place sem')) (sym same) ∙ there_sem) in
-          let named_is : named' ≡ o = same_Some named' o (sym (at_set_same state place named named' at_named) ∙ ap (slice_get (slice_set state place named')) (sym same) ∙ there_named) in
-          subst (λ n. StandsAt table' (names' n) n s o) (sym same)
-            (subst (λ (x : SemaphoreState). StandsAt table' (names' place) place x o) sem_is
-              (subst (λ (x : Named). StandsAt table' (names' place) place sem' x) named_is at_place)))
-        (λ other.
-          subst (λ (f : ℕ → Tag). StandsAt table' f j s o) (sym (same_names j other))
-            (stands_still update (names j) j s o (nowhere_else j other)
-              (stands.each j s o (sym (at_set_other sems place j sem' other) ∙ there_sem) (sym (at_set_other state place j named' other) ∙ there_named))))
+      (λ same.
+      let sem_is : sem' ≡ s = same_Some sem' s (sym (at_set_same sems place sem sem' at_sem) ∙ ap (slice_get (slice_set sems place sem')) (sym same) ∙ there_sem) in
+      let named_is : named' ≡ o = same_Some named' o (sym (at_set_same state place named named' at_named) ∙ ap (slice_get (slice_set state place named')) (sym same) ∙ there_named) in
+      subst (λ n. StandsAt table' (names' n) n s o) (sym same)
+      (subst (λ (x : SemaphoreState). StandsAt table' (names' place) place x o) sem_is
+      (subst (λ (x : Named). StandsAt table' (names' place) place sem' x) named_is at_place)))
+      (λ other.
+      subst (λ (f : ℕ → Tag). StandsAt table' f j s o) (sym (same_names j other))
+      (stands_still update (names j) j s o (nowhere_else j other)
+      (stands.each j s o (sym (at_set_other sems place j sem' other) ∙ there_sem) (sym (at_set_other state place j named' other) ∙ there_named))))
 
   still_known : (n : List ℕ) (thing : Option Thing) → bytes_eq m n ≡ false → IsKnown names sems state n thing → IsKnown names' (slice_set sems place sem') (slice_set state place named') n thing
   still_known n None other is = tt
   still_known n (Some (things.Object j)) other (o, there, called) =
       by_place j
-        (λ same.
-          let named_is : named ≡ o = same_Some named o (sym at_named ∙ ap (slice_get state) (sym same) ∙ there) in
-          (named', ap (slice_get (slice_set state place named')) same ∙ at_set_same state place named named' at_named, keeps.name ∙ ap (λ (x : Named). x.name) named_is ∙ called))
-        (λ apart. (o, at_set_other state place j named' apart ∙ there, called))
+      (λ same.
+      let named_is : named ≡ o = same_Some named o (sym at_named ∙ ap (slice_get state) (sym same) ∙ there) in
+      (named', ap (slice_get (slice_set state place named')) same ∙ at_set_same state place named named' at_named, keeps.name ∙ ap (λ (x : Named). x.name) named_is ∙ called))
+      (λ apart. (o, at_set_other state place j named' apart ∙ there, called))
   still_known n (Some (things.Request j request)) other (s, slot, there, is, found, called) =
       by_place j
-        (λ same.
-          let sem_is : sem ≡ s = same_Some sem s (sym at_sem ∙ ap (slice_get sems) (sym same) ∙ there) in
-          let kept = keeps.request n slot _ other (subst (λ (x : SemaphoreState). entry_named (is_slot slot) (requests x.line) ≡ Some (record { name = slot; size = request.size })) (sym sem_is) found) (ap (λ k. names k slot) (sym same) ∙ called) in
-          (sem', slot, ap (slice_get (slice_set sems place sem')) same ∙ at_set_same sems place sem sem' at_sem, is, kept.0, ap (λ k. names' k slot) same ∙ kept.1))
-        (λ apart. (s, slot, at_set_other sems place j sem' apart ∙ there, is, found, ap (λ (f : ℕ → Tag). f slot) (same_names j apart) ∙ called))
+      (λ same.
+      let sem_is : sem ≡ s = same_Some sem s (sym at_sem ∙ ap (slice_get sems) (sym same) ∙ there) in
+      let kept = keeps.request n slot _ other (subst (λ (x : SemaphoreState). entry_named (is_slot slot) (requests x.line) ≡ Some (record { name = slot; size = request.size })) (sym sem_is) found) (ap (λ k. names k slot) (sym same) ∙ called) in
+      (sem', slot, ap (slice_get (slice_set sems place sem')) same ∙ at_set_same sems place sem sem' at_sem, is, kept.0, ap (λ k. names' k slot) same ∙ kept.1))
+      (λ apart. (s, slot, at_set_other sems place j sem' apart ∙ there, is, found, ap (λ (f : ℕ → Tag). f slot) (same_names j apart) ∙ called))
   still_known n (Some (things.Permit permit)) other (o, there, found) =
       by_place permit.of
-        (λ same.
-          let named_is : named ≡ o = same_Some named o (sym at_named ∙ ap (slice_get state) (sym same) ∙ there) in
-          (named', ap (slice_get (slice_set state place named')) same ∙ at_set_same state place named named' at_named,
-           keeps.permit n _ other (subst (λ (x : Named). entry_named (is_tag n) x.object.held ≡ Some (record { name = permit_tag n; size = permit.count })) (sym named_is) found)))
-        (λ apart. (o, at_set_other state place permit.of named' apart ∙ there, found))
+      (λ same.
+      let named_is : named ≡ o = same_Some named o (sym at_named ∙ ap (slice_get state) (sym same) ∙ there) in (
+        named',
+        ap (slice_get (slice_set state place named')) same ∙ at_set_same state place named named' at_named,
+        keeps.permit n _ other (subst (λ (x : Named). entry_named (is_tag n) x.object.held ≡ Some (record { name = permit_tag n; size = permit.count })) (sym named_is) found),
+      ))
+      (λ apart. (o, at_set_other state place permit.of named' apart ∙ there, found))
 
   pub stands_after : StandsUnder names' table' (slice_set sems place sem') (slice_set state place named')
   stands_after = record {
     size = length-set sems place sem' ∙ stands.size ∙ sym (length-set state place named');
     each = each_there;
     every = λ n. by_bool (bytes_eq m n)
-      (λ same. subst (λ (x : Option Thing). IsKnown names' (slice_set sems place sem') (slice_set state place named') n x) (sym (update.here n same))
+        (λ same. subst (λ (x : Option Thing). IsKnown names' (slice_set sems place sem') (slice_set state place named') n x) (sym (update.here n same))
         (subst (λ (x : List ℕ). IsKnown names' (slice_set sems place sem') (slice_set state place named') x w) (same_bytes m n same) known))
-      (λ other. subst (λ (x : Option Thing). IsKnown names' (slice_set sems place sem') (slice_set state place named') n x) (sym (update.others n other))
+        (λ other. subst (λ (x : Option Thing). IsKnown names' (slice_set sems place sem') (slice_set state place named') n x) (sym (update.others n other))
         (still_known n (table n) other (stands.every n)));
   }

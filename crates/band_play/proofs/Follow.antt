@@ -41,8 +41,8 @@ use Rattle.band_play.proofs.Permits.{dropped_permit}
 pub all_quiet : (last : ℕ) (sems : List SemaphoreState) → wakes_of (slice_get sems last) ≡ [] → OthersQuiet last sems → (place : ℕ) (sem : SemaphoreState) → slice_get sems place ≡ Some sem → sem.line.wakes ≡ []
 all_quiet last sems none others place sem there =
     by_bool (place == last)
-      (λ same. ap wakes_of (sym there ∙ ap (slice_get sems) (eqb-true place last same)) ∙ none)
-      (λ apart. others place sem (λ e. false≢true (sym apart ∙ (Decides-eqb place last).1 e)) there)
+    (λ same. ap wakes_of (sym there ∙ ap (slice_get sems) (eqb-true place last same)) ∙ none)
+    (λ apart. others place sem (λ e. false≢true (sym apart ∙ (Decides-eqb place last).1 e)) there)
 
 -- afterwards the others have none
 pub others_quiet : (sems : List SemaphoreState) (place : ℕ) (sem : SemaphoreState) → ((k : ℕ) (s : SemaphoreState) → slice_get sems k ≡ Some s → s.line.wakes ≡ []) → OthersQuiet place (slice_set sems place sem)
@@ -56,10 +56,11 @@ Matches outcome reply table last sems =
 pub by_turn : (names : ℕ → ℕ → Tag) (table : List ℕ → Option Thing) (sems : List SemaphoreState) (state : State) (place : ℕ) (before sem : SemaphoreState) (named : Named) (answer : Answer) (t : Turn Tag) (outcome : Outcome) (reply : Reply)
     → outcome ≡ after_turn place named state t → TurnsTo names table sems state place sem named answer t → slice_get sems place ≡ Some before → reply ≡ reply_of answer
     → Matches outcome reply table place (slice_set sems place sem)
-by_turn names table sems state place before sem named answer t outcome reply outcome_is turns there reply_is =
-    (reply_is ∙ ap reply_of (sym turns.answer_is) ∙ ap (λ (o : Outcome). o.reply) (sym outcome_is),
-     ap wakes_of (at_set_same sems place before sem there) ∙ sym turns.woken ∙ ap (λ (o : Outcome). o.woken) (sym outcome_is),
-     (names, subst (λ (s : State). StandsUnder names table (slice_set sems place sem) s) (ap (λ (o : Outcome). o.state) (sym outcome_is)) turns.stands))
+by_turn names table sems state place before sem named answer t outcome reply outcome_is turns there reply_is = (
+  reply_is ∙ ap reply_of (sym turns.answer_is) ∙ ap (λ (o : Outcome). o.reply) (sym outcome_is),
+  ap wakes_of (at_set_same sems place before sem there) ∙ sym turns.woken ∙ ap (λ (o : Outcome). o.woken) (sym outcome_is),
+  (names, subst (λ (s : State). StandsUnder names table (slice_set sems place sem) s) (ap (λ (o : Outcome). o.state) (sym outcome_is)) turns.stands),
+)
 
 pub object_from : (o : Option Thing) (place : ℕ) → object_of o ≡ Ok place → o ≡ Some (things.Object place)
 object_from None place e = cc
@@ -76,28 +77,29 @@ pub unchanged_table : (names : ℕ → ℕ → Tag) (table table' : List ℕ →
 unchanged_table names table table' sems state same stands = record {
   size = stands.size;
   each = λ place sem named at_sem at_named.
-    let at = stands.each place sem named at_sem at_named in
-    record {
-      known = same named.name ∙ at.known;
-      kind = at.kind;
-      number = at.number;
-      line = at.line;
-      held = at.held;
-      lawful = at.lawful;
-      each_request = all_weaker _ _ (λ (e : Entry ℕ) is. same (names place e.name).name ∙ is) (requests sem.line) at.each_request;
-      each_held = all_weaker _ _ (λ (e : Entry Tag) is. same e.name.name ∙ is) named.object.held at.each_held;
-      held_once = at.held_once;
-    };
+      let at = stands.each place sem named at_sem at_named in
+      record {
+        known = same named.name ∙ at.known;
+        kind = at.kind;
+        number = at.number;
+        line = at.line;
+        held = at.held;
+        lawful = at.lawful;
+        each_request = all_weaker _ _ (λ (e : Entry ℕ) is. same (names place e.name).name ∙ is) (requests sem.line) at.each_request;
+        each_held = all_weaker _ _ (λ (e : Entry Tag) is. same e.name.name ∙ is) named.object.held at.each_held;
+        held_once = at.held_once;
+      };
   every = λ n. subst (λ (o : Option Thing). IsKnown names sems state n o) (sym (same n)) (stands.every n);
 }
 
 -- a refused call
 pub refused_follows : (names : ℕ → ℕ → Tag) (table : List ℕ → Option Thing) (sems : List SemaphoreState) (state : State) (last : ℕ) (outcome : Outcome) (refusal : Refusal)
     → StandsUnder names table sems state → wakes_of (slice_get sems last) ≡ [] → outcome ≡ refused refusal state → Matches outcome (replies.Refused refusal) table last sems
-refused_follows names table sems state last outcome refusal stands none outcome_is =
-    (ap (λ (o : Outcome). o.reply) (sym outcome_is),
-     none ∙ ap (λ (o : Outcome). o.woken) (sym outcome_is),
-     (names, subst (λ (s : State). StandsUnder names table sems s) (ap (λ (o : Outcome). o.state) (sym outcome_is)) stands))
+refused_follows names table sems state last outcome refusal stands none outcome_is = (
+  ap (λ (o : Outcome). o.reply) (sym outcome_is),
+  none ∙ ap (λ (o : Outcome). o.woken) (sym outcome_is),
+  (names, subst (λ (s : State). StandsUnder names table sems s) (ap (λ (o : Outcome). o.state) (sym outcome_is)) stands),
+)
 
 asking_refused : (o : Option Thing) (refusal : Refusal) (made : List ℕ) (n waker : ℕ) (state : State) → object_of o ≡ Err refusal → asking (standing_of o) made n waker state ≡ refused refusal state
 asking_refused None refusal made n waker state e = let same : refusals.Unknown ≡ refusal = cc in ap (λ r. refused r state) same
@@ -157,20 +159,20 @@ module _ (names : ℕ → ℕ → Tag) (table : List ℕ → Option Thing) (sems
         → Matches (asking (standing of state) made n waker state) reply table' place (slice_set sems place after)
     asked_by (Ok (polls.Ready permit)) (served, permit_is, after_is, left_is) (thing_is, reply_is) =
         subst (λ (s : SemaphoreState). Matches (asking (standing of state) made n waker state) reply table' place (slice_set sems place s)) (sym after_is)
-          (by_turn names table' sems state place before _ named object.Ready _ _ reply
-            (ask_turn made of n waker place named is at_named (kind_of place before named at_sem at_named) absent)
-            (asked_served names table table' made n waker sems state place before named stands at_sem at_named absent quiet served
-              (subst (λ (t : Thing). Updated table table' made (Some t)) (thing_is ∙ ap things.Permit permit_is) update)
-              (subst (λ (s : SemaphoreState). IsLawful s.line s.held) after_is lawful))
-            at_sem reply_is)
+        (by_turn names table' sems state place before _ named object.Ready _ _ reply
+        (ask_turn made of n waker place named is at_named (kind_of place before named at_sem at_named) absent)
+        (asked_served names table table' made n waker sems state place before named stands at_sem at_named absent quiet served
+        (subst (λ (t : Thing). Updated table table' made (Some t)) (thing_is ∙ ap things.Permit permit_is) update)
+        (subst (λ (s : SemaphoreState). IsLawful s.line s.held) after_is lawful))
+        at_sem reply_is)
     asked_by (Ok polls.Pending) (waits, (slot, fresh, after_is, left_is)) (thing_is, reply_is) =
         subst (λ (s : SemaphoreState). Matches (asking (standing of state) made n waker state) reply table' place (slice_set sems place s)) (sym after_is)
-          (by_turn (naming names place slot made) table' sems state place before _ named object.Pending _ _ reply
-            (ask_turn made of n waker place named is at_named (kind_of place before named at_sem at_named) absent)
-            (asked_joined names table table' made n waker sems state place before named stands at_sem at_named absent quiet slot waits fresh
-              (subst (λ (t : Thing). Updated table table' made (Some t)) (thing_is ∙ ap (things.Request place) left_is) update)
-              (subst (λ (s : SemaphoreState). IsLawful s.line s.held) after_is lawful))
-            at_sem reply_is)
+        (by_turn (naming names place slot made) table' sems state place before _ named object.Pending _ _ reply
+        (ask_turn made of n waker place named is at_named (kind_of place before named at_sem at_named) absent)
+        (asked_joined names table table' made n waker sems state place before named stands at_sem at_named absent quiet slot waits fresh
+        (subst (λ (t : Thing). Updated table table' made (Some t)) (thing_is ∙ ap (things.Request place) left_is) update)
+        (subst (λ (s : SemaphoreState). IsLawful s.line s.held) after_is lawful))
+        at_sem reply_is)
     asked_by (Err e) polled answered = absurd answered
 
   pub ask_follows : (table' : List ℕ → Option Thing) (sems' : List SemaphoreState) (made of : List ℕ) (n waker place : ℕ) (thing : Thing) (reply : Reply)
@@ -181,8 +183,8 @@ module _ (names : ℕ → ℕ → Tag) (table : List ℕ → Option Thing) (sems
       let is : table of ≡ Some (things.Object place) = object_from (table of) place object in
       let there = there_for place of is in
       subst (λ (s : List SemaphoreState). Matches (asking (standing of state) made n waker state) reply table' place s) (sym polls.set)
-        (asked_by table' made of n waker place polls.before polls.after there.0 thing reply polls.left is absent update polls.there there.1
-          (quiet place polls.before polls.there) polls.lawful polls.result polls.polled polls.answered)
+      (asked_by table' made of n waker place polls.before polls.after there.0 thing reply polls.left is absent update polls.there there.1
+      (quiet place polls.before polls.there) polls.lawful polls.result polls.polled polls.answered)
 
   known_at : (name : List ℕ) (found : Option Thing) → table name ≡ found → IsKnown names sems state name found
   known_at name found is = subst (λ (o : Option Thing). IsKnown names sems state name o) is (stands.every name)
@@ -216,20 +218,20 @@ module _ (names : ℕ → ℕ → Tag) (table : List ℕ → Option Thing) (sems
         → Matches (polling (standing name state) name waker state) reply table' place (slice_set sems place after)
     polled_by (Ok (polls.Ready permit)) (granted, permit_is, after_is, left_is) (thing_is, reply_is) =
         subst (λ (s : SemaphoreState). Matches (polling (standing name state) name waker state) reply table' place (slice_set sems place s)) (sym after_is)
-          (by_turn names table' sems state place before _ named object.Ready _ _ reply
-            (poll_turn name waker place request named is at_named)
-            (polled_ready names table name sems state place before named slot request.size stands at_sem at_named joined own called quiet waker table' granted
-              (subst (λ (t : Thing). Updated table table' name (Some t)) (thing_is ∙ ap things.Permit (permit_is ∙ ap (λ (r : Request). record { of = r.of; count = request.size }) request_is)) update)
-              (subst (λ (s : SemaphoreState). IsLawful s.line s.held) after_is lawful))
-            at_sem reply_is)
+        (by_turn names table' sems state place before _ named object.Ready _ _ reply
+        (poll_turn name waker place request named is at_named)
+        (polled_ready names table name sems state place before named slot request.size stands at_sem at_named joined own called quiet waker table' granted
+        (subst (λ (t : Thing). Updated table table' name (Some t)) (thing_is ∙ ap things.Permit (permit_is ∙ ap (λ (r : Request). record { of = r.of; count = request.size }) request_is)) update)
+        (subst (λ (s : SemaphoreState). IsLawful s.line s.held) after_is lawful))
+        at_sem reply_is)
     polled_by (Ok polls.Pending) (waits, after_is, left_is) (thing_is, reply_is) =
         subst (λ (s : SemaphoreState). Matches (polling (standing name state) name waker state) reply table' place (slice_set sems place s)) (sym after_is)
-          (by_turn names table' sems state place before _ named object.Pending _ _ reply
-            (poll_turn name waker place request named is at_named)
-            (same_turn
-              (polled_pending names table name sems state place before named slot request.size stands at_sem at_named joined own called quiet waker waits
-                (subst (λ (s : SemaphoreState). IsLawful s.line s.held) after_is lawful)))
-            at_sem reply_is)
+        (by_turn names table' sems state place before _ named object.Pending _ _ reply
+        (poll_turn name waker place request named is at_named)
+        (same_turn
+        (polled_pending names table name sems state place before named slot request.size stands at_sem at_named joined own called quiet waker waits
+        (subst (λ (s : SemaphoreState). IsLawful s.line s.held) after_is lawful)))
+        at_sem reply_is)
       where
         -- the table has the same at every name
         same_turn : {sem : SemaphoreState} {answer : Answer} {t : Turn Tag} → TurnsTo names table sems state place sem named answer t → TurnsTo names table' sems state place sem named answer t
@@ -250,8 +252,8 @@ module _ (names : ℕ → ℕ → Tag) (table : List ℕ → Option Thing) (sems
         → ((n : List ℕ) → table' n ≡ table n) → sems' ≡ sems → reply ≡ replies.Refused refusal → outcome ≡ refused refusal state → Matches outcome reply table' last sems'
     refused_same table' sems' last outcome reply refusal same sems_is reply_is outcome_is =
         subst (λ (s : List SemaphoreState). Matches outcome reply table' last s) (sym sems_is)
-          (subst (λ (r : Reply). Matches outcome r table' last sems) (sym reply_is)
-            (refused_follows names table' sems state last outcome refusal (unchanged_table names table table' sems state same stands) (quiet_at last) outcome_is))
+        (subst (λ (r : Reply). Matches outcome r table' last sems) (sym reply_is)
+        (refused_follows names table' sems state last outcome refusal (unchanged_table names table table' sems state same stands) (quiet_at last) outcome_is))
 
     pub poll_unknown : (name : List ℕ) (waker last : ℕ) → table name ≡ None → Matches (polling (standing name state) name waker state) (replies.Refused refusals.Unknown) table last sems
     poll_unknown name waker last absent =
@@ -262,10 +264,10 @@ module _ (names : ℕ → ℕ → Tag) (table : List ℕ → Option Thing) (sems
         → Matches (polling (standing name state) name waker state) reply table' (place_at found) sems'
     poll_follows table' sems' name waker (things.Object place) thing reply is (thing_is, reply_is, sems_is) update =
         refused_same table' sems' place _ reply refusals.Kind (same_table table table' name (Some thing) update (is ∙ ap Some (sym thing_is))) sems_is reply_is
-          (ap (λ s. polling s name waker state) (stands_as name _ is))
+        (ap (λ s. polling s name waker state) (stands_as name _ is))
     poll_follows table' sems' name waker (things.Permit permit) thing reply is (thing_is, reply_is, sems_is) update =
         refused_same table' sems' permit.of _ reply refusals.Finished (same_table table table' name (Some thing) update (is ∙ ap Some (sym thing_is))) sems_is reply_is
-          (ap (λ s. polling s name waker state) (stands_as name _ is))
+        (ap (λ s. polling s name waker state) (stands_as name _ is))
     poll_follows table' sems' name waker (things.Request place request) thing reply is polls update =
         let known = known_at name (Some (things.Request place request)) is in
         polled_known known polls
@@ -275,11 +277,11 @@ module _ (names : ℕ → ℕ → Tag) (table : List ℕ → Option Thing) (sems
             let same : sem ≡ polls.before = same_Some sem polls.before (sym at_sem ∙ polls.there) in
             let there = also_at state sems place sem (sym stands.size) at_sem in
             subst (λ (s : List SemaphoreState). Matches (polling (standing name state) name waker state) reply table' place s) (sym polls.set)
-              (polled_by table' name waker place request slot polls.before polls.after there.0 thing reply polls.left is request_is
-                (subst (λ (s : SemaphoreState). entry_named (is_slot slot) (requests s.line) ≡ Some (record { name = slot; size = request.size })) same own) called update
-                polls.there there.1 (quiet place polls.before polls.there) polls.lawful polls.result
-                (subst (λ (r : Request). PollsAt r.stage request waker polls.before polls.result polls.left polls.after) request_is polls.polled)
-                polls.answered)
+            (polled_by table' name waker place request slot polls.before polls.after there.0 thing reply polls.left is request_is
+            (subst (λ (s : SemaphoreState). entry_named (is_slot slot) (requests s.line) ≡ Some (record { name = slot; size = request.size })) same own) called update
+            polls.there there.1 (quiet place polls.before polls.there) polls.lawful polls.result
+            (subst (λ (r : Request). PollsAt r.stage request waker polls.before polls.result polls.left polls.after) request_is polls.polled)
+            polls.answered)
 
     pub drop_unknown : (name : List ℕ) (last : ℕ) → table name ≡ None → Matches (dropping (standing name state) name state) (replies.Refused refusals.Unknown) table last sems
     drop_unknown name last absent =
@@ -299,16 +301,16 @@ module _ (names : ℕ → ℕ → Tag) (table : List ℕ → Option Thing) (sems
         dropped_known (sem, slot, at_sem, request_is, own, called) =
             let same : becomes.before ≡ sem = same_Some becomes.before sem (sym becomes.there ∙ at_sem) in
             let after_is : cancelled request.stage becomes.before ≡ record sem { line = cancel (is_slot slot) sem.line } =
-                ap₂ (λ (r : Request) (s : SemaphoreState). cancelled r.stage s) request_is same in
+            ap₂ (λ (r : Request) (s : SemaphoreState). cancelled r.stage s) request_is same in
             let there = also_at state sems place sem (sym stands.size) at_sem in
             subst (λ (s : List SemaphoreState). Matches (dropping (standing name state) name state) replies.Done table' place s)
-              (sym (becomes.set ∙ ap (slice_set sems place) after_is))
-              (by_turn names table' sems state place sem _ there.0 object.Done _ _ replies.Done
-                (drop_request_turn name place request there.0 is there.1)
-                (dropped_request names table name sems state place sem there.0 slot request.size stands at_sem there.1
-                  (is ∙ ap (λ r. Some (things.Request place r)) request_is) own called (quiet place sem at_sem) table' update
-                  (subst (λ (s : SemaphoreState). IsLawful s.line s.held) after_is becomes.lawful))
-                at_sem refl)
+            (sym (becomes.set ∙ ap (slice_set sems place) after_is))
+            (by_turn names table' sems state place sem _ there.0 object.Done _ _ replies.Done
+            (drop_request_turn name place request there.0 is there.1)
+            (dropped_request names table name sems state place sem there.0 slot request.size stands at_sem there.1
+            (is ∙ ap (λ r. Some (things.Request place r)) request_is) own called (quiet place sem at_sem) table' update
+            (subst (λ (s : SemaphoreState). IsLawful s.line s.held) after_is becomes.lawful))
+            at_sem refl)
 
     pub drop_permit : (table' : List ℕ → Option Thing) (sems' : List SemaphoreState) (name : List ℕ) (permit : Permit)
         → table name ≡ Some (things.Permit permit) → Becomes permit.of sems sems' (given_back permit.count) → Updated table table' name None
@@ -319,8 +321,8 @@ module _ (names : ℕ → ℕ → Tag) (table : List ℕ → Option Thing) (sems
         dropped_known : IsKnown names sems state name (Some (things.Permit permit)) → Matches (dropping (standing name state) name state) replies.Done table' permit.of sems'
         dropped_known (named, at_named, own) =
             subst (λ (s : List SemaphoreState). Matches (dropping (standing name state) name state) replies.Done table' permit.of s) (sym becomes.set)
-              (by_turn names table' sems state permit.of becomes.before _ named object.Done _ _ replies.Done
-                (drop_permit_turn name permit named is at_named)
-                (dropped_permit names table table' name sems state permit.of becomes.before named permit.count stands becomes.there at_named is own
-                  (quiet permit.of becomes.before becomes.there) update becomes.lawful)
-                becomes.there refl)
+            (by_turn names table' sems state permit.of becomes.before _ named object.Done _ _ replies.Done
+            (drop_permit_turn name permit named is at_named)
+            (dropped_permit names table table' name sems state permit.of becomes.before named permit.count stands becomes.there at_named is own
+            (quiet permit.of becomes.before becomes.there) update becomes.lawful)
+            becomes.there refl)

@@ -44,24 +44,24 @@ pub any_from_find : {A : Type 0} (p q : A → Bool) (xs : List A) (x : A) → fi
 any_from_find p q [] x found pass = absurd (none-some x found)
 any_from_find p q (y ∷ ys) x found pass =
     by_bool (q y)
-      (λ e. or_first (p y) (list_any p ys) (ap p (same_Some y x (sym (cond_true (q y) (Some y) (find q ys) e) ∙ found)) ∙ pass))
-      (λ e. or_second (p y) (list_any p ys) (any_from_find p q ys x (sym (cond_false (q y) (Some y) (find q ys) e) ∙ found) pass))
+    (λ e. or_first (p y) (list_any p ys) (ap p (same_Some y x (sym (cond_true (q y) (Some y) (find q ys) e) ∙ found)) ∙ pass))
+    (λ e. or_second (p y) (list_any p ys) (any_from_find p q ys x (sym (cond_false (q y) (Some y) (find q ys) e) ∙ found) pass))
 
 -- what holds of each holds of the first that passes
 pub each_at_find : {A : Type 0} (P : A → Type 0) (q : A → Bool) (xs : List A) (x : A) → find q xs ≡ Some x → AllByRecursion P xs → P x
 each_at_find P q [] x found each = absurd (none-some x found)
 each_at_find P q (y ∷ ys) x found each =
     by_bool (q y)
-      (λ e. subst P (same_Some y x (sym (cond_true (q y) (Some y) (find q ys) e) ∙ found)) each.0)
-      (λ e. each_at_find P q ys x (sym (cond_false (q y) (Some y) (find q ys) e) ∙ found) each.1)
+    (λ e. subst P (same_Some y x (sym (cond_true (q y) (Some y) (find q ys) e) ∙ found)) each.0)
+    (λ e. each_at_find P q ys x (sym (cond_false (q y) (Some y) (find q ys) e) ∙ found) each.1)
 
 -- the first that passes does pass
 pub find_passes : {A : Type 0} (q : A → Bool) (xs : List A) (x : A) → find q xs ≡ Some x → q x ≡ true
 find_passes q [] x found = absurd (none-some x found)
 find_passes q (y ∷ ys) x found =
     by_bool (q y)
-      (λ e. ap q (sym (same_Some y x (sym (cond_true (q y) (Some y) (find q ys) e) ∙ found))) ∙ e)
-      (λ e. find_passes q ys x (sym (cond_false (q y) (Some y) (find q ys) e) ∙ found))
+    (λ e. ap q (sym (same_Some y x (sym (cond_true (q y) (Some y) (find q ys) e) ∙ found))) ∙ e)
+    (λ e. find_passes q ys x (sym (cond_false (q y) (Some y) (find q ys) e) ∙ found))
 
 -- a fact of each element with its place, counted from a number
 abbrev pub Along : {A : Type 0} → (ℕ → A → Type 0) → ℕ → List A → Type 0
@@ -70,9 +70,10 @@ Along P place (x ∷ xs) = P place x × Along P (place + 1) xs
 
 pub along_from_places : {A : Type 0} (P : ℕ → A → Type 0) (place : ℕ) (xs : List A) → ((k : ℕ) (x : A) → slice_get xs k ≡ Some x → P (place + k) x) → Along P place xs
 along_from_places P place [] each = tt
-along_from_places P place (x ∷ xs) each =
-    (subst (λ n. P n x) (add-zero place) (each 0 x refl),
-     along_from_places P (place + 1) xs (λ k y at. subst (λ n. P n y) (omega arith) (each (suc k) y at)))
+along_from_places P place (x ∷ xs) each = (
+  subst (λ n. P n x) (add-zero place) (each 0 x refl),
+  along_from_places P (place + 1) xs (λ k y at. subst (λ n. P n y) (omega arith) (each (suc k) y at)),
+)
 
 -- a fact of some element
 abbrev pub Somewhere : {A : Type 0} → (A → Type 0) → List A → Type 0

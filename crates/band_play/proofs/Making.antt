@@ -77,18 +77,18 @@ module _ (names : ℕ → ℕ → Tag) (table : List ℕ → Option Thing) (sems
         absurd (omega (arith, slice_get_within state place o at_named, stands.size))
     each_there place s o (inr (last_sem, sem_is)) (inr (last, named_is)) =
         subst (λ (x : SemaphoreState). StandsAt table' (names place) place x o) sem_is
-          (subst (λ (x : Named). StandsAt table' (names place) place new x) named_is
-            (record {
-              known = update.here made (bytes_same made made refl) ∙ ap (λ k. Some (things.Object k)) (sym last_sem);
-              kind = refl;
-              number = sym last_sem;
-              line = refl;
-              held = refl;
-              lawful = lawful_start n fits;
-              each_request = tt;
-              each_held = tt;
-              held_once = nothing_twice (λ (a b : Tag). bytes_eq a.name b.name);
-            }))
+        (subst (λ (x : Named). StandsAt table' (names place) place new x) named_is
+        (record {
+          known = update.here made (bytes_same made made refl) ∙ ap (λ k. Some (things.Object k)) (sym last_sem);
+          kind = refl;
+          number = sym last_sem;
+          line = refl;
+          held = refl;
+          lawful = lawful_start n fits;
+          each_request = tt;
+          each_held = tt;
+          held_once = nothing_twice (λ (a b : Tag). bytes_eq a.name b.name);
+        }))
 
     still_known : (name : List ℕ) (found : Option Thing) → IsKnown names sems state name found → IsKnown names (sems ++ new ∷ []) (state ++ named ∷ []) name found
     still_known name None known = tt
@@ -101,19 +101,20 @@ module _ (names : ℕ → ℕ → Tag) (table : List ℕ → Option Thing) (sems
       size = omega (arith, length-append sems (new ∷ []), length-append state (named ∷ []), stands.size);
       each = λ place s o at_sem at_named. each_there place s o (at_push sems new place s at_sem) (at_push state named place o at_named);
       every = λ name. by_bool (bytes_eq made name)
-        (λ same. subst (λ (o : Option Thing). IsKnown names (sems ++ new ∷ []) (state ++ named ∷ []) name o) (sym (update.here name same))
+          (λ same. subst (λ (o : Option Thing). IsKnown names (sems ++ new ∷ []) (state ++ named ∷ []) name o) (sym (update.here name same))
           (named, ap (slice_get (state ++ named ∷ [])) stands.size ∙ at_end state named, same_bytes made name same))
-        (λ other. subst (λ (o : Option Thing). IsKnown names (sems ++ new ∷ []) (state ++ named ∷ []) name o) (sym (update.others name other))
+          (λ other. subst (λ (o : Option Thing). IsKnown names (sems ++ new ∷ []) (state ++ named ∷ []) name o) (sym (update.others name other))
           (still_known name (table name) (stands.every name)));
     }
 
     pub make_follows : (last : ℕ) → wakes_of (slice_get (sems ++ new ∷ []) last) ≡ [] → Matches (making made (new_semaphore n) state) replies.Done table' last (sems ++ new ∷ [])
     make_follows last none =
         let is : making made (new_semaphore n) state ≡ record { reply = replies.Done; woken = []; state = state ++ named ∷ [] } =
-            ap (λ s. unless_taken s (record { reply = replies.Done; woken = []; state = state ++ named ∷ [] }) state) (stands_as names table sems state stands made None absent) in
-        (ap (λ (o : Outcome). o.reply) (sym is),
-         none ∙ ap (λ (o : Outcome). o.woken) (sym is),
-         (names, subst (λ (s : State). StandsUnder names table' (sems ++ new ∷ []) s) (ap (λ (o : Outcome). o.state) (sym is)) stands_made))
+        ap (λ s. unless_taken s (record { reply = replies.Done; woken = []; state = state ++ named ∷ [] }) state) (stands_as names table sems state stands made None absent) in (
+          ap (λ (o : Outcome). o.reply) (sym is),
+          none ∙ ap (λ (o : Outcome). o.woken) (sym is),
+          (names, subst (λ (s : State). StandsUnder names table' (sems ++ new ∷ []) s) (ap (λ (o : Outcome). o.state) (sym is)) stands_made),
+        )
 
   abbrev made_outcome : List ℕ → ℕ → Outcome
   made_outcome made n = record { reply = replies.Done; woken = []; state = state ++ record { name = made; object = new_semaphore n } ∷ [] }
@@ -122,7 +123,7 @@ module _ (names : ℕ → ℕ → Tag) (table : List ℕ → Option Thing) (sems
       → Matches (making made (new_semaphore n) state) (replies.Refused refusals.Taken) table last sems
   make_taken made n last thing quiet live =
       refused_follows names table sems state last _ refusals.Taken stands (quiet_at names table sems state stands quiet last)
-        (ap (λ s. unless_taken s (made_outcome made n) state) (stands_as names table sems state stands made (table made) refl) ∙ taken (table made) thing (made_outcome made n) state live)
+      (ap (λ s. unless_taken s (made_outcome made n) state) (stands_as names table sems state stands made (table made) refl) ∙ taken (table made) thing (made_outcome made n) state live)
 
 -- with a new semaphore at the end nobody has wakers to take
 pub quiet_push : (sems : List SemaphoreState) (place n : ℕ) → ((k : ℕ) (s : SemaphoreState) → slice_get sems k ≡ Some s → s.line.wakes ≡ []) → (k : ℕ) (s : SemaphoreState) → slice_get (sems ++ fresh place n ∷ []) k ≡ Some s → s.line.wakes ≡ []

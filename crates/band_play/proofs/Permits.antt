@@ -72,18 +72,18 @@ module _ (names : ℕ → ℕ → Tag) (table table' : List ℕ → Option Thing
   pub dropped_permit : TurnsTo names table' sems state place given_sem named Done (drop (is_tag m) named.object)
   dropped_permit =
       subst (λ (o : Option (Entry Tag)). TurnsTo names table' sems state place given_sem named Done (drop_of o (is_tag m) named.object))
-        (sym own)
-        (turns_to names names table table' m None sems state place sem given_sem named given_object stands update at_sem at_named same_names nowhere not_object
-          (ap (give_back count) line_before ∙ give_back-rename (names place) count sem.line)
-          refl refl left lawful
-          (rw (requests-give_back count sem.line) requests_stay)
-          (all_weaker _ _ (λ (e : Entry Tag) h. update.others e.name.name h.1 ∙ h.0) (without (is_tag m) named.object.held)
-            (others_stay (λ (a b : Tag). bytes_eq a.name b.name) (is_tag m) (tags_one m) _ named.object.held here.each_held here.held_once))
-          (once_without (λ (a b : Tag). bytes_eq a.name b.name) (is_tag m) named.object.held here.held_once)
-          (record {
-            name = refl;
-            request = λ n s e other found named_n. (ap (entry_named (is_slot s)) (requests-give_back count sem.line) ∙ found, named_n);
-            permit = λ n e other found. entry_named-without_other (is_tag m) (is_tag n) named.object.held (tags_apart m n named.object.held other) ∙ found;
-          })
-          tt
-          Done)
+      (sym own)
+      (turns_to names names table table' m None sems state place sem given_sem named given_object stands update at_sem at_named same_names nowhere not_object
+      (ap (give_back count) line_before ∙ give_back-rename (names place) count sem.line)
+      refl refl left lawful
+      (rw (requests-give_back count sem.line) requests_stay)
+      (all_weaker _ _ (λ (e : Entry Tag) h. update.others e.name.name h.1 ∙ h.0) (without (is_tag m) named.object.held)
+      (others_stay (λ (a b : Tag). bytes_eq a.name b.name) (is_tag m) (tags_one m) _ named.object.held here.each_held here.held_once))
+      (once_without (λ (a b : Tag). bytes_eq a.name b.name) (is_tag m) named.object.held here.held_once)
+      (record {
+        name = refl;
+        request = λ n s e other found named_n. (ap (entry_named (is_slot s)) (requests-give_back count sem.line) ∙ found, named_n);
+        permit = λ n e other found. entry_named-without_other (is_tag m) (is_tag n) named.object.held (tags_apart m n named.object.held other) ∙ found;
+      })
+      tt
+      Done)

@@ -74,10 +74,10 @@ module _ (names : ℕ → ℕ → Tag) (table : List ℕ → Option Thing) (m : 
   agree_at : (e : Entry ℕ) → table (names place e.name).name ≡ Some (request_at place e) → is_tag m (names place e.name) ≡ is_slot slot e.name
   agree_at e is =
       by_bool (is_slot slot e.name)
-        (λ h. ap (λ (t : Tag). is_tag m t) (ap (names place) (sym (slot_same slot e.name h)) ∙ called) ∙ bytes_same m m refl ∙ sym h)
-        (λ h. by_bool (is_tag m (names place e.name))
-          (λ k. absurd (false≢true (sym h ∙ same_slot (ap slot_of (sym requested ∙ ap table (same_bytes m (names place e.name).name k) ∙ is)))))
-          (λ k. k ∙ sym h))
+      (λ h. ap (λ (t : Tag). is_tag m t) (ap (names place) (sym (slot_same slot e.name h)) ∙ called) ∙ bytes_same m m refl ∙ sym h)
+      (λ h. by_bool (is_tag m (names place e.name))
+      (λ k. absurd (false≢true (sym h ∙ same_slot (ap slot_of (sym requested ∙ ap table (same_bytes m (names place e.name).name k) ∙ is)))))
+      (λ k. k ∙ sym h))
     where
       same_slot : slot ≡ e.name → is_slot slot e.name ≡ true
       same_slot s = ap (λ k. is_slot slot k) (sym s) ∙ itself slot
@@ -114,20 +114,20 @@ module _ (names : ℕ → ℕ → Tag) (table : List ℕ → Option Thing) (m : 
     pub polled_pending : TurnsTo names table sems state place waiting_sem named Pending (poll (is_tag m) waker named.object)
     polled_pending =
         subst (λ (o : Option (Entry Tag)). TurnsTo names table sems state place waiting_sem named Pending (poll_of o (is_tag m) waker named.object))
-          (sym (granted_is ∙ ap (option_map (renamed (names place))) waits))
-          (turns_to names names table table m (table m) sems state place sem waiting_sem named waiting_object stands (unchanged table m) at_sem at_named same_names nowhere not_object
-            (ap (poll_waiting (is_tag m) waker) line_before ∙ poll_waiting-rename (names place) (is_slot slot) (is_tag m) waker sem.line agree_waiting)
-            refl refl here.held lawful
-            (rw (requests-poll_waiting (is_slot slot) waker sem.line) here.each_request)
-            here.each_held here.held_once
-            (record {
-              name = refl;
-              request = λ n s e other found named_n. (entry_named-poll_waiting (is_slot slot) (is_slot s) waker sem.line ∙ found, named_n);
-              permit = λ n e other found. found;
-            })
-            (subst (λ (o : Option Thing). IsKnown names (slice_set sems place waiting_sem) (slice_set state place (with_object named (quieted waiting_object))) m o) (sym requested)
-              (waiting_sem, slot, at_set_same sems place sem waiting_sem at_sem, refl, entry_named-poll_waiting (is_slot slot) (is_slot slot) waker sem.line ∙ own, called))
-            Pending)
+        (sym (granted_is ∙ ap (option_map (renamed (names place))) waits))
+        (turns_to names names table table m (table m) sems state place sem waiting_sem named waiting_object stands (unchanged table m) at_sem at_named same_names nowhere not_object
+        (ap (poll_waiting (is_tag m) waker) line_before ∙ poll_waiting-rename (names place) (is_slot slot) (is_tag m) waker sem.line agree_waiting)
+        refl refl here.held lawful
+        (rw (requests-poll_waiting (is_slot slot) waker sem.line) here.each_request)
+        here.each_held here.held_once
+        (record {
+          name = refl;
+          request = λ n s e other found named_n. (entry_named-poll_waiting (is_slot slot) (is_slot s) waker sem.line ∙ found, named_n);
+          permit = λ n e other found. found;
+        })
+        (subst (λ (o : Option Thing). IsKnown names (slice_set sems place waiting_sem) (slice_set state place (with_object named (quieted waiting_object))) m o) (sym requested)
+        (waiting_sem, slot, at_set_same sems place sem waiting_sem at_sem, refl, entry_named-poll_waiting (is_slot slot) (is_slot slot) waker sem.line ∙ own, called))
+        Pending)
 
   -- no permit has the name
   permit_apart : (e : Entry Tag) → table e.name.name ≡ Some (permit_at place e) → bytes_eq e.name.name m ≡ false
@@ -145,7 +145,7 @@ module _ (names : ℕ → ℕ → Tag) (table : List ℕ → Option Thing) (m : 
   not_held [] each = refl
   not_held (e ∷ es) each =
       cond_false (is_tag m e.name) (Some e) (entry_named (is_tag m) es)
-        (by_bool (is_tag m e.name) (λ h. absurd (false≢true (sym each.0 ∙ bytes_same e.name.name m (sym (same_bytes m e.name.name h))))) (λ h. h))
+      (by_bool (is_tag m e.name) (λ h. absurd (false≢true (sym each.0 ∙ bytes_same e.name.name m (sym (same_bytes m e.name.name h))))) (λ h. h))
       ∙ not_held es each.1
 
   -- the table without the request, or with its permit
@@ -159,7 +159,7 @@ module _ (names : ℕ → ℕ → Tag) (table : List ℕ → Option Thing) (m : 
     requests_stay : AllByRecursion (λ (e : Entry ℕ). table' (names place e.name).name ≡ Some (request_at place e)) (without (is_slot slot) (requests sem.line))
     requests_stay =
         all_weaker _ _ (λ (e : Entry ℕ) h. update.others (names place e.name).name (agree_at e h.0 ∙ h.1) ∙ h.0) (without (is_slot slot) (requests sem.line))
-          (others_stay nat_eq (is_slot slot) (slots_one slot) _ (requests sem.line) here.each_request here.lawful.one_each)
+        (others_stay nat_eq (is_slot slot) (slots_one slot) _ (requests sem.line) here.each_request here.lawful.one_each)
 
     requests_kept : (n : List ℕ) (s : ℕ) (e : Entry ℕ) → bytes_eq m n ≡ false → entry_named (is_slot s) (requests sem.line) ≡ Some e → names place s ≡ permit_tag n
         → entry_named (is_slot s) (without (is_slot slot) (requests sem.line)) ≡ Some e
@@ -195,24 +195,24 @@ module _ (names : ℕ → ℕ → Tag) (table : List ℕ → Option Thing) (m : 
     pub polled_ready : TurnsTo names table' sems state place ready_sem named Ready (poll (is_tag m) waker named.object)
     polled_ready =
         subst (λ (o : Option (Entry Tag)). TurnsTo names table' sems state place ready_sem named Ready (poll_of o (is_tag m) waker named.object))
-          (sym (granted_is ∙ ap (option_map (renamed (names place))) granted))
-          (turns_to names names table table' m _ sems state place sem ready_sem named ready_object stands update at_sem at_named same_names nowhere not_object
-            (ap (poll_granted (is_tag m)) line_before ∙ poll_granted-rename (names place) (is_slot slot) (is_tag m) sem.line agree_granted)
-            refl refl
-            (total-append named.object.held (taken ∷ []) ∙ ap₂ (λ a b. a + b) here.held (zero-add size))
-            lawful
-            (rw (requests-poll_granted (is_slot slot) sem.line (record { name = slot; size = size }) granted) (requests_stay table' _ update))
-            (all_of_both _ named.object.held (taken ∷ []) (permits_stay table' _ update) (taken_here, tt))
-            (once_push (λ (a b : Tag). bytes_eq a.name b.name) named.object.held taken here.held_once
-              (all_weaker _ _ (λ (e : Entry Tag) h. ap (λ (t : Tag). bytes_eq e.name.name t.name) called ∙ h) named.object.held held_apart))
-            (record {
-              name = refl;
-              request = λ n s e other found named_n.
-                (ap (entry_named (is_slot s)) (requests-poll_granted (is_slot slot) sem.line (record { name = slot; size = size }) granted) ∙ requests_kept table' _ update n s e other found named_n, named_n);
-              permit = λ n e other found. found_before n e found;
-            })
-            (with_object named (quieted ready_object), at_set_same state place named (with_object named (quieted ready_object)) at_named, found_last)
-            Ready)
+        (sym (granted_is ∙ ap (option_map (renamed (names place))) granted))
+        (turns_to names names table table' m _ sems state place sem ready_sem named ready_object stands update at_sem at_named same_names nowhere not_object
+        (ap (poll_granted (is_tag m)) line_before ∙ poll_granted-rename (names place) (is_slot slot) (is_tag m) sem.line agree_granted)
+        refl refl
+        (total-append named.object.held (taken ∷ []) ∙ ap₂ (λ a b. a + b) here.held (zero-add size))
+        lawful
+        (rw (requests-poll_granted (is_slot slot) sem.line (record { name = slot; size = size }) granted) (requests_stay table' _ update))
+        (all_of_both _ named.object.held (taken ∷ []) (permits_stay table' _ update) (taken_here, tt))
+        (once_push (λ (a b : Tag). bytes_eq a.name b.name) named.object.held taken here.held_once
+        (all_weaker _ _ (λ (e : Entry Tag) h. ap (λ (t : Tag). bytes_eq e.name.name t.name) called ∙ h) named.object.held held_apart))
+        (record {
+          name = refl;
+          request = λ n s e other found named_n.
+              (ap (entry_named (is_slot s)) (requests-poll_granted (is_slot slot) sem.line (record { name = slot; size = size }) granted) ∙ requests_kept table' _ update n s e other found named_n, named_n);
+          permit = λ n e other found. found_before n e found;
+        })
+        (with_object named (quieted ready_object), at_set_same state place named (with_object named (quieted ready_object)) at_named, found_last)
+        Ready)
 
   -- it is cancelled
   module _ (table' : List ℕ → Option Thing) (update : Updated table table' m None) (lawful : IsLawful (cancel (is_slot slot) sem.line) sem.held) where
@@ -225,17 +225,17 @@ module _ (names : ℕ → ℕ → Tag) (table : List ℕ → Option Thing) (m : 
     pub dropped_request : TurnsTo names table' sems state place cancelled_sem named Done (drop (is_tag m) named.object)
     dropped_request =
         subst (λ (o : Option (Entry Tag)). TurnsTo names table' sems state place cancelled_sem named Done (drop_of o (is_tag m) named.object))
-          (sym (not_held named.object.held held_apart))
-          (turns_to names names table table' m None sems state place sem cancelled_sem named cancelled_object stands update at_sem at_named same_names nowhere not_object
-            (ap (cancel (is_tag m)) line_before ∙ cancel-rename_requests (names place) (is_slot slot) (is_tag m) sem.line agree)
-            refl refl here.held lawful
-            (rw (requests-cancel (is_slot slot) sem.line) (requests_stay table' _ update))
-            (permits_stay table' _ update) here.held_once
-            (record {
-              name = refl;
-              request = λ n s e other found named_n.
-                (ap (entry_named (is_slot s)) (requests-cancel (is_slot slot) sem.line) ∙ requests_kept table' _ update n s e other found named_n, named_n);
-              permit = λ n e other found. found;
-            })
-            tt
-            Done)
+        (sym (not_held named.object.held held_apart))
+        (turns_to names names table table' m None sems state place sem cancelled_sem named cancelled_object stands update at_sem at_named same_names nowhere not_object
+        (ap (cancel (is_tag m)) line_before ∙ cancel-rename_requests (names place) (is_slot slot) (is_tag m) sem.line agree)
+        refl refl here.held lawful
+        (rw (requests-cancel (is_slot slot) sem.line) (requests_stay table' _ update))
+        (permits_stay table' _ update) here.held_once
+        (record {
+          name = refl;
+          request = λ n s e other found named_n.
+              (ap (entry_named (is_slot s)) (requests-cancel (is_slot slot) sem.line) ∙ requests_kept table' _ update n s e other found named_n, named_n);
+          permit = λ n e other found. found;
+        })
+        tt
+        Done)

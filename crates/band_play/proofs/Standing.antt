@@ -56,9 +56,9 @@ scan found name place [] finds (inl e) = sym e
 scan found name place [] finds (inr h) = absurd h
 scan found name place (o ∷ rest) finds shows =
     by_test (bytes_eq name o.name) _ _ _ finds.0.object
-      (λ a. by_test (stands_in name (requests o.object.line)) _ _ _ finds.0.request
-        (λ b. by_test (stands_in name o.object.held) _ _ _ finds.0.holding
-          (λ d. scan found name (place + 1) rest finds.1 (elsewhere found name o rest (not_shown name o a b d) shows))))
+    (λ a. by_test (stands_in name (requests o.object.line)) _ _ _ finds.0.request
+    (λ b. by_test (stands_in name o.object.held) _ _ _ finds.0.holding
+    (λ d. scan found name (place + 1) rest finds.1 (elsewhere found name o rest (not_shown name o a b d) shows))))
 
 -- a name that stands among entries under other names stands among them
 stands_renamed : (name : List ℕ) (names : ℕ → Tag) (entries : List (Entry ℕ)) → stands_in name (map (renamed names) entries) ≡ list_any (λ e. is_tag name (names e.name)) entries
@@ -78,18 +78,18 @@ module _ (names : ℕ → ℕ → Tag) (table : List ℕ → Option Thing) (sems
   finds_at name place named sem at = record {
     object = λ h. sym (ap standing_of (ap table (same_bytes name named.name h) ∙ at.known));
     request = λ h.
-      let found = passing (λ e. is_tag name (names place e.name)) _ (requests sem.line) (sym (requested name (names place) sem named at.line) ∙ h) at.each_request in
-      sym (ap standing_of (ap table (same_bytes name (names place found.0.name).name found.1) ∙ found.2));
+        let found = passing (λ e. is_tag name (names place e.name)) _ (requests sem.line) (sym (requested name (names place) sem named at.line) ∙ h) at.each_request in
+        sym (ap standing_of (ap table (same_bytes name (names place found.0.name).name found.1) ∙ found.2));
     holding = λ h.
-      let found = passing (λ e. is_tag name e.name) _ named.object.held h at.each_held in
-      sym (ap standing_of (ap table (same_bytes name found.0.name.name found.1) ∙ found.2));
+        let found = passing (λ e. is_tag name e.name) _ named.object.held h at.each_held in
+        sym (ap standing_of (ap table (same_bytes name found.0.name.name found.1) ∙ found.2));
   }
 
   finds : (name : List ℕ) → Along (FindsAt (standing_of (table name)) name) 0 state
   finds name = along_from_places _ 0 state (λ place named there.
       let other = also_at sems state place named stands.size there in
       subst (λ n. FindsAt (standing_of (table name)) name n named) (sym (zero-add place))
-        (finds_at name place named other.0 (stands.each place other.0 named other.1 there)))
+      (finds_at name place named other.0 (stands.each place other.0 named other.1 there)))
 
   shows : (name : List ℕ) (found : Option Thing) → IsKnown names sems state name found → (standing_of found ≡ Absent) ⊎ Somewhere (Shows name) state
   shows name None known = inl refl
@@ -100,10 +100,10 @@ module _ (names : ℕ → ℕ → Tag) (table : List ℕ → Option Thing) (sems
       let at = stands.each place sem other.0 there other.1 in
       let tagged : is_tag name (names place slot) ≡ true = ap (λ t. is_tag name t) called ∙ bytes_same name name refl in
       inr (somewhere_at (Shows name) state place other.0 other.1
-        (inr (inl (requested name (names place) sem other.0 at.line ∙ any_from_find (λ e. is_tag name (names place e.name)) (λ e. is_slot slot e.name) (requests sem.line) (record { name = slot; size = request.size }) found tagged))))
+      (inr (inl (requested name (names place) sem other.0 at.line ∙ any_from_find (λ e. is_tag name (names place e.name)) (λ e. is_slot slot e.name) (requests sem.line) (record { name = slot; size = request.size }) found tagged))))
   shows name (Some (things.Permit permit)) (named, there, found) =
       inr (somewhere_at (Shows name) state permit.of named there
-        (inr (inr (any_from_find (λ e. is_tag name e.name) (λ e. is_tag name e.name) named.object.held (record { name = permit_tag name; size = permit.count }) found (bytes_same name name refl)))))
+      (inr (inr (any_from_find (λ e. is_tag name e.name) (λ e. is_tag name e.name) named.object.held (record { name = permit_tag name; size = permit.count }) found (bytes_same name name refl)))))
 
   pub standing_is : (name : List ℕ) → standing name state ≡ standing_of (table name)
   standing_is name = scan (standing_of (table name)) name 0 state (finds name) (shows name (table name) (stands.every name))

@@ -62,18 +62,18 @@ module _ (names names' : ℕ → ℕ → Tag) (table table' : List ℕ → Optio
     answer_is = refl;
     woken = ap (λ (line : Line Tag). line.wakes) line_is;
     stands = stands_after names names' table table' m w sems state place sem sem' named (with_object named (quieted object)) stands update at_sem at_named same_names nowhere_else keeps
-      (record {
-        known = stays update named.name (things.Object place) not_object at_before.known;
-        kind = kind_is ∙ at_before.kind;
-        number = number_is ∙ at_before.number;
-        line = ap quiet line_is;
-        held = held_is;
-        lawful = lawful;
-        each_request = each_request;
-        each_held = each_held;
-        held_once = held_once;
-      })
-      known;
+        (record {
+          known = stays update named.name (things.Object place) not_object at_before.known;
+          kind = kind_is ∙ at_before.kind;
+          number = number_is ∙ at_before.number;
+          line = ap quiet line_is;
+          held = held_is;
+          lawful = lawful;
+          each_request = each_request;
+          each_held = each_held;
+          held_once = held_once;
+        })
+        known;
   }
 
 -- tests on slots and names
@@ -101,6 +101,7 @@ apart_on slot other (e ∷ es) apart = (slot_apart slot other e.name apart, apar
 
 pub tags_apart : (m n : List ℕ) (entries : List (Entry Tag)) → bytes_eq m n ≡ false → AllByRecursion (λ e. is_tag n e.name ≡ true → is_tag m e.name ≡ false) entries
 tags_apart m n [] other = tt
-tags_apart m n (e ∷ es) other =
-    ((λ h. by_bool (is_tag m e.name) (λ k. absurd (false≢true (sym other ∙ bytes_same m n (same_bytes m e.name.name k ∙ sym (same_bytes n e.name.name h))))) (λ k. k)),
-     tags_apart m n es other)
+tags_apart m n (e ∷ es) other = (
+  (λ h. by_bool (is_tag m e.name) (λ k. absurd (false≢true (sym other ∙ bytes_same m n (same_bytes m e.name.name k ∙ sym (same_bytes n e.name.name h))))) (λ k. k)),
+  tags_apart m n es other,
+)

@@ -52,8 +52,8 @@ unless_taken (AHolding place) outcome state = refused Taken state
 abbrev pub making : List ℕ → Object Tag → State → Outcome
 making made new state =
     unless_taken (standing made state)
-      (record { reply = replies.Done; woken = []; state = state ++ record { name = made; object = new } ∷ [] })
-      state
+    (record { reply = replies.Done; woken = []; state = state ++ record { name = made; object = new } ∷ [] })
+    state
 
 -- on a semaphore
 abbrev pub on_kind : object.Kind → Outcome → State → Outcome

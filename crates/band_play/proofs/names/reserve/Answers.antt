@@ -9,4 +9,4 @@ use Rattle.band_play.proofs.names.reserve.Goals as goal
 pub returns-in-Ok-None-clause-ok : goal.returns-in-Ok-None-clause-ok
 returns-in-Ok-None-clause-ok c =
     updated c.args.names.now c.insert.new.self c.args.name.now (Some (Object 0))
-      (subst (λ k. Updates (slice_cmp nat_cmp) c.args.names.now c.insert.new.self k (Some (Object 0))) c.copy.ensures c.in-Ok-None.ensures.updates)
+    (subst (λ k. Updates (slice_cmp nat_cmp) c.args.names.now c.insert.new.self k (Some (Object 0))) c.copy.ensures c.in-Ok-None.ensures.updates)
