@@ -151,15 +151,16 @@ module _ {N : Type 0} where
   replace is name size (entry ∷ rest) =
       if is entry.name then record { name = name; size = size } ∷ rest else entry ∷ replace is name size rest
 
-  -- Downgrade: a held write entry becomes a read entry of size 1, and the rest is given back.
-  abbrev pub downgrade_of : Kind → (N → Bool) → N → Object N → Turn N
-  downgrade_of (ReaderWriter max) is reader object =
+  -- Downgrade: what is held for writing is held for reading from now on, of size 1, and the rest of all readers is given back.
+  abbrev pub downgrade_of : Kind → Option (Entry N) → (N → Bool) → N → Object N → Turn N
+  downgrade_of (ReaderWriter max) (Some writer) is reader object =
       turn Done (record object { line = give_back (max - 1) object.line; held = replace is reader 1 object.held })
-  downgrade_of Semaphore is reader object = turn Nothing object
-  downgrade_of Mutex is reader object = turn Nothing object
+  downgrade_of (ReaderWriter max) None is reader object = turn Nothing object
+  downgrade_of Semaphore held is reader object = turn Nothing object
+  downgrade_of Mutex held is reader object = turn Nothing object
 
   abbrev pub downgrade : (N → Bool) → N → Object N → Turn N
-  downgrade is reader object = downgrade_of object.kind is reader object
+  downgrade is reader object = downgrade_of object.kind (entry_named is object.held) is reader object
 
   -- a release of n is refused: what is free, granted and held, and n, would pass the largest count
   abbrev pub would_overflow : ℕ → Object N → Bool

@@ -10,7 +10,9 @@ pub mod NameLemmas
 pub mod NumberLemmas
 pub mod Permits
 pub mod Requests
+pub mod Sound
 pub mod Standing
+pub mod TableLemmas
 pub mod Turns
 pub mod Updates
 pub mod WordLemmas

@@ -1,0 +1,103 @@
+-- What a sound table gives: each thing in it is one that its semaphores know.
+use Rattle.std.proofs.Common.{◌≡◌, ◌≢◌, ℕ, ◌+◌, ◌<◌, ◌≤◌, List, [], ◌∷◌, ◌++◌, Option, Some, None, Result, Ok, Err, refl, sym, ap, ◌∙◌, subst, arith, length}
+use Rattle.std.proofs.Math.Logic.{∥∥₁_elim, ∥∥₁_map}
+use Rattle.std.proofs.Props.{props}
+use Rattle.std.specs.List.{slice_get, slice_set}
+use Rattle.std.proofs.lemmas.Option.{none-some, same_Some, slice_get_within}
+use Rattle.band_balance.specs.Line.{Entry, total, entry_named, requests, without}
+use Rattle.band_balance.proofs.Settle.{total-without}
+use Rattle.band_sem.specs.Semaphore.{SemaphoreState, is_slot, IsOwn}
+use Rattle.band_sem.specs.Request.{Request}
+use Rattle.band_sem.specs.Permit.{Permit}
+use Rattle.band_sem.specs.declared.acquire.Stage.{Stage}
+use Rattle.band_sem.specs.declared.acquire.Stage.TheVariants.{NotPolled, Joined, Finished}
+use Rattle.band_play.specs.declared.thing.Thing.{Thing}
+use Rattle.band_play.specs.declared.thing.Thing.TheVariants as things
+use Rattle.band_play.specs.declared.table.Table.{Table}
+use Rattle.band_play.specs.declared.reply.Reply.{Reply}
+use Rattle.band_play.specs.Names.{thing_at}
+use Rattle.band_play.specs.State.{State, Named, is_tag, permit_tag}
+use Rattle.band_play.specs.Step.{Outcome}
+use Rattle.band_play.specs.Table.{StandsAt, StandsUnder, Stands, IsKnown}
+use Rattle.band_play.specs.Moves.{IsFit, FitsRequest, FitsPermit, IsJoined, IsNumbered, object_of}
+use Rattle.band_play.specs.Kept.{IsSound, StandsFor, Follows, Remains, Stays, OthersQuiet, wakes_left, wakes_of}
+use Rattle.band_play.proofs.Lists.{also_at, at_set_same}
+use Rattle.band_play.proofs.Follow.{all_quiet, object_from}
+
+-- no object has wakers to take
+pub quiet_all : (table : Table) → IsSound table → wakes_left table ≡ [] → (place : ℕ) (sem : SemaphoreState) → slice_get table.objects.items place ≡ Some sem → sem.line.wakes ≡ []
+quiet_all table sound none = all_quiet table.last table.objects.items none sound.others
+
+-- a table that follows a call stands for some state
+pub sound_after : (call : State → Outcome) (old : Table) (reply : Reply) (new : Table) → IsSound old → Follows call old reply new → OthersQuiet new.last new.objects.items → IsSound new
+sound_after call old reply new sound follows others = record {
+  stood = ∥∥₁_map sound.stood (λ stands. ((call stands.0).state, (follows stands.0 stands.1).2));
+  others = others;
+}
+
+pub sound_still : (old new : Table) → IsSound old → Remains old new → OthersQuiet new.last new.objects.items → IsSound new
+sound_still old new sound remains others = record {
+  stood = ∥∥₁_map sound.stood (λ stands. (stands.0, remains stands.0 stands.1));
+  others = others;
+}
+
+fits_request-prop : (o : Option SemaphoreState) (request : Request) → IsProp (FitsRequest o request)
+fits_request-prop None request = hlevel props
+fits_request-prop (Some sem) request = at_stage request.stage
+  where
+    at_stage : (stage : Stage) → IsProp (IsJoined stage × (request.of ≡ sem.number) × IsOwn stage request.size sem.line)
+    at_stage NotPolled = hlevel props
+    at_stage (Joined slot) = hlevel props
+    at_stage Finished = hlevel props
+
+fits_permit-prop : (o : Option SemaphoreState) (permit : Permit) → IsProp (FitsPermit o permit)
+fits_permit-prop None permit = hlevel props
+fits_permit-prop (Some sem) permit = hlevel props
+
+pub fit-prop : (sems : List SemaphoreState) (thing : Thing) → IsProp (IsFit sems thing)
+fit-prop sems (things.Object place) = hlevel props
+fit-prop sems (things.Request place request) = fits_request-prop (slice_get sems place) request
+fit-prop sems (things.Permit permit) = fits_permit-prop (slice_get sems permit.of) permit
+
+module _ (names : ℕ → ℕ → _) (table : List ℕ → Option Thing) (sems : List SemaphoreState) (state : State) (stands : StandsUnder names table sems state) where
+  pub numbered : (place : ℕ) → IsNumbered sems place
+  numbered place sem there =
+      let other = also_at state sems place sem (sym stands.size) there in
+      (stands.each place sem other.0 there other.1).number
+
+  fit_from : (name : List ℕ) (thing : Thing) → IsKnown names sems state name (Some thing) → IsFit sems thing
+  fit_from name (things.Object place) (named, there, called) = omega (arith, slice_get_within state place named there, stands.size)
+  fit_from name (things.Request place request) (sem, slot, there, is, own, called) =
+      subst (λ o. FitsRequest o request) (sym there)
+        (subst (λ (r : Request). IsJoined r.stage × (r.of ≡ sem.number) × IsOwn r.stage r.size sem.line) (sym is)
+          (tt, sym (numbered place sem there), own))
+  fit_from name (things.Permit permit) (named, there, own) =
+      let other = also_at sems state permit.of named stands.size there in
+      let at = stands.each permit.of other.0 named other.1 there in
+      subst (λ o. FitsPermit o permit) (sym other.1)
+        (sym at.number, held_enough named other.0 at.held own)
+    where
+      held_enough : (named : Named) (sem : SemaphoreState) → total named.object.held ≡ sem.held → entry_named (is_tag name) named.object.held ≡ Some (record { name = permit_tag name; size = permit.count }) → permit.count ≤ sem.held
+      held_enough named sem held own =
+          let whole = total-without (is_tag name) named.object.held (record { name = permit_tag name; size = permit.count }) own in
+          omega arith
+
+  pub fits_at : (name : List ℕ) (thing : Thing) → table name ≡ Some thing → IsFit sems thing
+  fits_at name thing is = fit_from name thing (subst (λ (o : Option Thing). IsKnown names sems state name o) is (stands.every name))
+
+  pub object_there : (of : List ℕ) (place : ℕ) → object_of (table of) ≡ Ok place → place < length sems
+  object_there of place is = fits_at of (things.Object place) (object_from (table of) place is)
+
+-- the same of a sound table, whatever it stands for
+pub fits_in : (table : Table) (name : List ℕ) (thing : Thing) → IsSound table → thing_at table.names name ≡ Some thing → IsFit table.objects.items thing
+fits_in table name thing sound is =
+    ∥∥₁_elim sound.stood (fit-prop table.objects.items thing)
+      (λ stands. fits_at stands.1.0 (thing_at table.names) table.objects.items stands.0 stands.1.1 name thing is)
+
+pub object_in : (table : Table) (of : List ℕ) (place : ℕ) → IsSound table → object_of (thing_at table.names of) ≡ Ok place → place < length table.objects.items
+object_in table of place sound is = fits_in table of (things.Object place) sound (object_from (thing_at table.names of) place is)
+
+pub numbered_in : (table : Table) (place : ℕ) → IsSound table → IsNumbered table.objects.items place
+numbered_in table place sound =
+    ∥∥₁_elim sound.stood (hlevel props)
+      (λ stands. numbered stands.1.0 (thing_at table.names) table.objects.items stands.0 stands.1.1 place)
