@@ -24,12 +24,25 @@ pub(crate) fn push_reply(out: &mut String, reply: &Reply) -> Result<(), AllocErr
             waiting,
             granted,
             held,
-        } => writeln!(
-            out,
-            "available {available} free {free} waiting {waiting} granted {granted} held {held}"
-        ),
+        } => push_figures(out, *available, *free, *waiting, *granted, *held),
         Reply::Refused(refusal) => writeln!(out, "refused {}", word_of(*refusal)),
     }
+}
+
+fn push_figures(
+    out: &mut String,
+    available: u64,
+    free: i128,
+    waiting: u64,
+    granted: u64,
+    held: u64,
+) -> Result<(), AllocError>
+    ensures { OnOk result (string_bytes out.new ≡ string_bytes out.old ++ (reply_text (Reply.Figures available free waiting granted held) ++ 10 ∷ [])) }
+{
+    writeln!(
+        out,
+        "available {available} free {free} waiting {waiting} granted {granted} held {held}"
+    )
 }
 
 /// Adds the line of a waker woken.

@@ -48,9 +48,15 @@ fn asks_to_play(words: &[String]) -> bool
     ensures { IsTrue result ↔ (map string_bytes words.now ≡ codes "play" ∷ []) }
 {
     match words {
-        [word] => word.as_str() == "play",
+        [word] => is_play(word),
         _ => false,
     }
+}
+
+fn is_play(word: &String) -> bool
+    ensures { IsTrue result ↔ (string_bytes word.now ≡ codes "play") }
+{
+    word.as_str() == "play"
 }
 
 fn status_of(outcome: Result<u64, PlayFault>) -> u8
