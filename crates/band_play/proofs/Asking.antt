@@ -1,29 +1,27 @@
 -- A first poll in the table: it is served at once, or it joins under a new slot.
-use Rattle.std.proofs.Common.{◌≡◌, ℕ, ◌+◌, ◌-◌, ◌==◌, Bool, true, false, cond, List, [], ◌∷◌, ◌++◌, map, Option, Some, None, option_map, ◌⊎◌, inl, inr, refl, sym, ap, ap₂, ◌∙◌, subst, arith, length, zero-add, nat_eq}
-use Rattle.std.specs.List.{AllByRecursion, slice_get, slice_set, IsDistinct}
+use Rattle.std.proofs.Common.{◌≡◌, ℕ, ◌+◌, ◌==◌, Bool, true, false, cond, List, [], ◌∷◌, Option, Some, None, refl, sym, ap, ap₂, ◌∙◌, subst, arith, zero-add}
+use Rattle.std.specs.List.{AllByRecursion, slice_get}
 use Rattle.std.specs.Option.{option_or}
 use Rattle.std.specs.Str.{bytes_eq}
 use Rattle.std.proofs.lemmas.Bool.{false≢true, eqb-true}
-use Rattle.std.proofs.lemmas.Option.{none-some, same_Some}
-use Rattle.band_balance.specs.Line.{Entry, Waiting, Line, requests, rename, renamed, entry_of, entry_named, total, is_served, take_permits, join}
-use Rattle.band_balance.specs.Object.{Object, Turn, Answer, Ready, Pending, turn, ask, hold}
+use Rattle.std.proofs.lemmas.Option.{none-some}
+use Rattle.band_balance.specs.Line.{Entry, Line, requests, rename, entry_named, is_served, take_permits, join}
+use Rattle.band_balance.specs.Object.{Object, Turn, Ready, Pending, turn, ask, hold}
 use Rattle.band_balance.proofs.Rename.{is_served-rename, rename_agree, join-rename, all_of_both}
 use Rattle.band_balance.proofs.Requests.{requests-join, entry_named-join_itself, entry_named-join_other, entry_named-append}
 use Rattle.band_balance.proofs.Settle.{total-append}
 use Rattle.band_sem.specs.Semaphore.{SemaphoreState, is_slot, IsLawful}
-use Rattle.band_sem.specs.Request.{Request}
-use Rattle.band_sem.specs.Permit.{Permit}
 use Rattle.band_sem.specs.declared.acquire.Stage.TheVariants.{Joined}
 use Rattle.band_play.specs.declared.thing.Thing.{Thing}
 use Rattle.band_play.specs.declared.thing.Thing.TheVariants as things
 use Rattle.band_play.specs.State.{State, Named, Tag, is_tag, permit_tag}
-use Rattle.band_play.specs.Table.{StandsAt, StandsUnder, IsKnown, request_at, permit_at, quiet}
-use Rattle.band_play.proofs.Lists.{by_bool, at_set_same, cond_true, cond_false, each_at_find, find_passes}
+use Rattle.band_play.specs.Table.{StandsAt, StandsUnder, request_at, permit_at}
+use Rattle.band_play.proofs.Lists.{by_bool, at_set_same, cond_true, cond_false}
 use Rattle.band_play.proofs.Standing.{same_bytes, bytes_same}
 use Rattle.band_play.specs.Names.{Updated}
-use Rattle.band_play.proofs.Change.{place_of, all_weaker, stays, Keeps}
+use Rattle.band_play.proofs.Change.{place_of, all_weaker, stays}
 use Rattle.band_play.proofs.Distinct.{once_push}
-use Rattle.band_play.proofs.Turns.{TurnsTo, turns_to, with_object, quieted, quiet_line, slot_same}
+use Rattle.band_play.proofs.Turns.{TurnsTo, turns_to, with_object, quieted, quiet_line}
 
 -- `made` names the new slot
 abbrev pub naming : (ℕ → ℕ → Tag) → ℕ → ℕ → List ℕ → ℕ → ℕ → Tag

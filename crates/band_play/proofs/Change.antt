@@ -1,23 +1,20 @@
 -- One name and one place change: what the rest keeps.
-use Rattle.std.proofs.Common.{◌≡◌, ℕ, ◌+◌, ◌==◌, Bool, true, false, cond, List, [], ◌∷◌, ◌++◌, map, Option, Some, None, ◌⊎◌, inl, inr, refl, sym, ap, ◌∙◌, subst, arith, length, zero-add}
-use Rattle.std.specs.List.{AllByRecursion, list_any, find, slice_get, slice_set, IsDistinct}
+use Rattle.std.proofs.Common.{◌≡◌, ℕ, ◌==◌, false, List, [], ◌∷◌, Option, Some, None, sym, ap, ◌∙◌, subst}
+use Rattle.std.specs.List.{AllByRecursion, slice_get, slice_set}
 use Rattle.std.specs.Str.{bytes_eq}
 use Rattle.std.proofs.lemmas.Bool.{false≢true, eqb-true}
 use Rattle.std.proofs.lemmas.Bool.Decides.{Decides-eqb}
-use Rattle.std.proofs.lemmas.Option.{none-some, same_Some}
+use Rattle.std.proofs.lemmas.Option.{same_Some}
 use Rattle.std.proofs.lemmas.List.{length-set}
-use Rattle.band_balance.specs.Line.{Entry, Line, requests, rename, renamed, entry_named}
+use Rattle.band_balance.specs.Line.{Entry, requests, entry_named}
 use Rattle.band_sem.specs.Semaphore.{SemaphoreState, is_slot}
-use Rattle.band_sem.specs.Request.{Request}
-use Rattle.band_sem.specs.Permit.{Permit}
-use Rattle.band_sem.specs.declared.acquire.Stage.TheVariants.{Joined}
 use Rattle.band_play.specs.declared.thing.Thing.{Thing}
 use Rattle.band_play.specs.declared.thing.Thing.TheVariants as things
 use Rattle.band_play.specs.Names.{Updated}
 use Rattle.band_play.specs.State.{State, Named, Tag, is_tag, permit_tag}
-use Rattle.band_play.specs.Table.{StandsAt, StandsUnder, IsKnown, request_at, permit_at, quiet}
-use Rattle.band_play.proofs.Lists.{by_bool, also_at, at_set_same, at_set_other}
-use Rattle.band_play.proofs.Standing.{same_bytes, bytes_same}
+use Rattle.band_play.specs.Table.{StandsAt, StandsUnder, IsKnown, request_at, permit_at}
+use Rattle.band_play.proofs.Lists.{by_bool, at_set_same, at_set_other}
+use Rattle.band_play.proofs.Standing.{same_bytes}
 
 -- at which place a thing is
 abbrev pub place_of : Option Thing → Option ℕ

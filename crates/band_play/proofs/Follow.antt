@@ -1,12 +1,11 @@
 -- Each call follows the step of the state.
-use Rattle.std.proofs.Common.{◌≡◌, ◌≢◌, ℕ, ◌+◌, ◌-◌, ◌==◌, Bool, true, false, cond, List, [], ◌∷◌, ◌++◌, map, Option, Some, None, Result, Ok, Err, option_map, ◌⊎◌, inl, inr, refl, sym, ap, ap₂, ◌∙◌, subst, arith, length, zero-add, nat_eq}
-use Rattle.std.specs.List.{AllByRecursion, slice_get, slice_set}
+use Rattle.std.proofs.Common.{◌≡◌, ℕ, ◌==◌, List, [], Option, Some, None, Result, Ok, Err, refl, sym, ap, ap₂, ◌∙◌, subst}
+use Rattle.std.specs.List.{slice_get, slice_set}
 use Rattle.std.specs.Str.{bytes_eq}
-use Rattle.std.specs.Bool.{IsTrue}
 use Rattle.std.proofs.lemmas.Bool.{false≢true, eqb-true}
 use Rattle.std.proofs.lemmas.Bool.Decides.{Decides-eqb}
 use Rattle.std.proofs.lemmas.Option.{none-some, same_Some}
-use Rattle.band_balance.specs.Line.{Entry, Line, requests, is_served, take_permits, join, entry_named, poll_granted, poll_waiting, cancel, give_back}
+use Rattle.band_balance.specs.Line.{Entry, requests, entry_named, cancel}
 use Rattle.band_balance.specs.Object.{Object, Semaphore, Turn, Answer, ask, poll, drop}
 use Rattle.band_balance.specs.Object as object
 use Rattle.band_base.specs.declared.poll.Poll.{Poll}
@@ -17,22 +16,21 @@ use Rattle.band_sem.specs.Request.{Request}
 use Rattle.band_sem.specs.Permit.{Permit}
 use Rattle.band_sem.specs.declared.refusal.Refusal.{Refusal}
 use Rattle.band_sem.specs.declared.refusal.Refusal.TheVariants as refusals
-use Rattle.band_sem.specs.declared.acquire.Stage.TheVariants.{NotPolled, Joined, Finished}
+use Rattle.band_sem.specs.declared.acquire.Stage.TheVariants.{NotPolled, Joined}
 use Rattle.band_play.specs.declared.reply.Reply.{Reply}
 use Rattle.band_play.specs.declared.reply.Reply.TheVariants as replies
 use Rattle.band_play.specs.declared.thing.Thing.{Thing}
 use Rattle.band_play.specs.declared.thing.Thing.TheVariants as things
 use Rattle.band_play.specs.Names.{Updated}
-use Rattle.band_play.specs.State.{State, Named, Tag, is_tag, permit_tag, Standing, Absent, AnObject, ARequest, AHolding, standing}
-use Rattle.band_play.specs.Step.{Outcome, reply_of, refused, after_turn, turn_of, turn_at, unless_taken, on_kind, on_semaphore, asking, polling, dropping, making}
-use Rattle.band_play.specs.Table.{StandsAt, StandsUnder, Stands, IsKnown}
-use Rattle.band_play.specs.Moves.{PollsRequest, PollsThing, DropsThing, Becomes, IsAnswered, object_of, given_back, place_at}
+use Rattle.band_play.specs.State.{State, Named, Tag, is_tag, permit_tag, standing}
+use Rattle.band_play.specs.Step.{Outcome, reply_of, refused, after_turn, turn_of, turn_at, unless_taken, on_kind, on_semaphore, asking, polling, dropping}
+use Rattle.band_play.specs.Table.{StandsUnder, Stands, IsKnown}
+use Rattle.band_play.specs.Moves.{PollsRequest, PollsThing, Becomes, IsAnswered, object_of, given_back, place_at}
 use Rattle.band_play.specs.Kept.{wakes_of, OthersQuiet}
 use Rattle.band_play.proofs.Lists.{by_bool, at_set_same, at_set_other, also_at}
 use Rattle.band_play.proofs.Standing.{standing_is, standing_of, same_bytes}
 use Rattle.band_play.proofs.Change.{all_weaker}
-use Rattle.band_play.specs.Table.{request_at, permit_at}
-use Rattle.band_play.proofs.Turns.{TurnsTo, with_object}
+use Rattle.band_play.proofs.Turns.{TurnsTo}
 use Rattle.band_play.proofs.Asking.{asked_served, asked_joined, naming}
 use Rattle.band_play.proofs.Requests.{polled_ready, polled_pending, dropped_request}
 use Rattle.band_play.proofs.Permits.{dropped_permit}

@@ -20,4 +20,5 @@ pub mod TableLemmas
 pub mod Telling
 pub mod Turns
 pub mod Updates
+pub mod Waking
 pub mod WordLemmas

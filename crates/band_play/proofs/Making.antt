@@ -1,24 +1,23 @@
 -- A new object in the table.
-use Rattle.std.proofs.Common.{◌≡◌, ◌≢◌, ℕ, ◌+◌, ◌-◌, ◌^◌, ◌<◌, ◌≤◌, zero, suc, Bool, true, false, cond, List, [], ◌∷◌, ◌++◌, map, Option, Some, None, ◌⊎◌, inl, inr, refl, sym, ap, ap₂, ◌∙◌, subst, arith, length, length-append, ℤ, pos, neg_ℤ, ◌+ℤ◌, ◌≤ℤ◌, nat_eq}
-use Rattle.std.specs.List.{AllByRecursion, slice_get, IsDistinct}
+use Rattle.std.proofs.Common.{◌≡◌, ℕ, ◌^◌, ◌<◌, zero, suc, Bool, List, [], ◌∷◌, ◌++◌, Option, Some, None, ◌⊎◌, inl, inr, refl, sym, ap, ◌∙◌, subst, arith, length, length-append, nat_eq}
+use Rattle.std.specs.List.{slice_get, IsDistinct}
 use Rattle.std.specs.Str.{bytes_eq}
 use Rattle.std.proofs.lemmas.Int.{ints}
 use Rattle.std.proofs.lemmas.Option.{none-some, same_Some, slice_get_within}
-use Rattle.band_balance.specs.Line.{Entry, Line, open_line, requests, total}
-use Rattle.band_balance.specs.Object.{Object, new_semaphore, u64_max}
+use Rattle.band_balance.specs.Line.{open_line}
+use Rattle.band_balance.specs.Object.{new_semaphore}
 use Rattle.band_sem.specs.Semaphore.{SemaphoreState, IsLawful}
 use Rattle.band_sem.specs.declared.refusal.Refusal.TheVariants as refusals
-use Rattle.band_play.specs.declared.reply.Reply.{Reply}
 use Rattle.band_play.specs.declared.reply.Reply.TheVariants as replies
 use Rattle.band_play.specs.declared.thing.Thing.{Thing}
 use Rattle.band_play.specs.declared.thing.Thing.TheVariants as things
 use Rattle.band_play.specs.Names.{Updated}
-use Rattle.band_play.specs.State.{State, Named, Tag, standing}
-use Rattle.band_play.specs.Step.{Outcome, refused, unless_taken, making}
-use Rattle.band_play.specs.Table.{StandsAt, StandsUnder, Stands, IsKnown}
-use Rattle.band_play.specs.Kept.{wakes_of, OthersQuiet}
+use Rattle.band_play.specs.State.{State, Named, Tag}
+use Rattle.band_play.specs.Step.{Outcome, unless_taken, making}
+use Rattle.band_play.specs.Table.{StandsAt, StandsUnder, IsKnown}
+use Rattle.band_play.specs.Kept.{wakes_of}
 use Rattle.band_play.proofs.Lists.{by_bool}
-use Rattle.band_play.proofs.Standing.{standing_is, standing_of, same_bytes, bytes_same}
+use Rattle.band_play.proofs.Standing.{same_bytes, bytes_same}
 use Rattle.band_play.proofs.Change.{stands_still, place_of}
 use Rattle.band_play.proofs.Follow.{Matches, refused_follows, stands_as, taken, quiet_at}
 

@@ -1,11 +1,10 @@
 -- A permit that is given back in the table.
-use Rattle.std.proofs.Common.{◌≡◌, ℕ, ◌+◌, ◌-◌, ◌==◌, Bool, true, false, cond, List, [], ◌∷◌, ◌++◌, map, Option, Some, None, option_map, ◌⊎◌, inl, inr, refl, sym, ap, ap₂, ◌∙◌, subst, arith, length, zero-add, nat_eq}
-use Rattle.std.specs.List.{AllByRecursion, slice_get, slice_set, IsDistinct}
+use Rattle.std.proofs.Common.{◌≡◌, ℕ, ◌+◌, ◌-◌, List, [], Option, Some, None, refl, sym, ap, ◌∙◌, subst, arith}
+use Rattle.std.specs.List.{AllByRecursion, slice_get}
 use Rattle.std.specs.Str.{bytes_eq}
-use Rattle.std.proofs.lemmas.Bool.{false≢true, eqb-true}
-use Rattle.std.proofs.lemmas.Option.{none-some, same_Some}
-use Rattle.band_balance.specs.Line.{Entry, Waiting, Line, requests, rename, entry_named, total, without, give_back}
-use Rattle.band_balance.specs.Object.{Object, Turn, Answer, Done, turn, drop, drop_of}
+use Rattle.std.proofs.lemmas.Option.{same_Some}
+use Rattle.band_balance.specs.Line.{Entry, requests, rename, entry_named, total, without, give_back}
+use Rattle.band_balance.specs.Object.{Object, Done, drop, drop_of}
 use Rattle.band_balance.proofs.Rename.{give_back-rename}
 use Rattle.band_balance.proofs.Requests.{requests-give_back, entry_named-without_other}
 use Rattle.band_balance.proofs.Settle.{total-without}
@@ -15,13 +14,11 @@ use Rattle.band_sem.specs.Permit.{Permit}
 use Rattle.band_play.specs.declared.thing.Thing.{Thing}
 use Rattle.band_play.specs.declared.thing.Thing.TheVariants as things
 use Rattle.band_play.specs.State.{State, Named, Tag, is_tag, permit_tag}
-use Rattle.band_play.specs.Table.{StandsAt, StandsUnder, IsKnown, request_at, permit_at, quiet}
-use Rattle.band_play.proofs.Lists.{by_bool, at_set_same}
-use Rattle.band_play.proofs.Standing.{same_bytes, bytes_same}
+use Rattle.band_play.specs.Table.{StandsAt, StandsUnder, request_at}
 use Rattle.band_play.specs.Names.{Updated}
-use Rattle.band_play.proofs.Change.{place_of, all_weaker, stays, Keeps}
+use Rattle.band_play.proofs.Change.{place_of, all_weaker, stays}
 use Rattle.band_play.proofs.Distinct.{others_stay, once_without}
-use Rattle.band_play.proofs.Turns.{TurnsTo, turns_to, with_object, quieted, quiet_line, tags_one, tags_apart}
+use Rattle.band_play.proofs.Turns.{TurnsTo, turns_to, quiet_line, tags_one, tags_apart}
 
 module _ (names : ℕ → ℕ → Tag) (table table' : List ℕ → Option Thing) (m : List ℕ) (sems : List SemaphoreState) (state : State)
     (place : ℕ) (sem : SemaphoreState) (named : Named) (count : ℕ)

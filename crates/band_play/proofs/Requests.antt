@@ -1,15 +1,15 @@
 -- A later poll and a cancel in the table.
-use Rattle.std.proofs.Common.{◌≡◌, ℕ, ◌+◌, ◌-◌, ◌==◌, Bool, true, false, cond, List, [], ◌∷◌, ◌++◌, map, Option, Some, None, option_map, ◌⊎◌, inl, inr, refl, sym, ap, ap₂, ◌∙◌, subst, arith, length, zero-add, nat_eq}
-use Rattle.std.specs.List.{AllByRecursion, slice_get, slice_set, IsDistinct}
+use Rattle.std.proofs.Common.{◌≡◌, ℕ, ◌+◌, Bool, true, false, cond, List, [], ◌∷◌, ◌++◌, map, Option, Some, None, option_map, refl, sym, ap, ap₂, ◌∙◌, subst, arith, zero-add, nat_eq}
+use Rattle.std.specs.List.{AllByRecursion, slice_get, slice_set}
 use Rattle.std.specs.Option.{option_or}
 use Rattle.std.specs.Str.{bytes_eq}
-use Rattle.std.proofs.lemmas.Bool.{false≢true, eqb-true}
-use Rattle.std.proofs.lemmas.Option.{none-some, same_Some}
-use Rattle.band_balance.specs.Line.{Entry, Waiting, Line, requests, rename, renamed, entry_of, entry_named, total, poll_granted, poll_waiting, cancel, without, give_back}
-use Rattle.band_balance.specs.Object.{Object, Turn, Answer, Ready, Pending, Done, turn, poll, poll_of, drop, drop_of, hold}
-use Rattle.band_balance.proofs.Rename.{poll_granted-rename, poll_waiting-rename, cancel-rename_requests, give_back-rename, all_of_first, all_of_second, all_of_both, entry_named-rename}
-use Rattle.band_balance.proofs.Requests.{requests-poll_waiting, requests-poll_granted, requests-cancel, requests-give_back, entry_named-without_other, entry_named-append, entry_named-cancel_other, entry_named-poll_waiting, entry_named-give_back}
-use Rattle.band_balance.proofs.Settle.{total-append, total-without}
+use Rattle.std.proofs.lemmas.Bool.{false≢true}
+use Rattle.std.proofs.lemmas.Option.{same_Some}
+use Rattle.band_balance.specs.Line.{Entry, Line, requests, rename, renamed, entry_of, entry_named, poll_granted, poll_waiting, cancel, without}
+use Rattle.band_balance.specs.Object.{Object, Ready, Pending, Done, poll, poll_of, drop, drop_of}
+use Rattle.band_balance.proofs.Rename.{poll_granted-rename, poll_waiting-rename, cancel-rename_requests, all_of_first, all_of_second, all_of_both, entry_named-rename}
+use Rattle.band_balance.proofs.Requests.{requests-poll_waiting, requests-poll_granted, requests-cancel, entry_named-without_other, entry_named-append, entry_named-poll_waiting}
+use Rattle.band_balance.proofs.Settle.{total-append}
 use Rattle.band_sem.specs.Semaphore.{SemaphoreState, is_slot, IsLawful}
 use Rattle.band_sem.specs.Request.{Request}
 use Rattle.band_sem.specs.Permit.{Permit}
@@ -18,13 +18,13 @@ use Rattle.band_sem.specs.declared.acquire.Stage.TheVariants.{NotPolled, Joined,
 use Rattle.band_play.specs.declared.thing.Thing.{Thing}
 use Rattle.band_play.specs.declared.thing.Thing.TheVariants as things
 use Rattle.band_play.specs.State.{State, Named, Tag, is_tag, permit_tag}
-use Rattle.band_play.specs.Table.{StandsAt, StandsUnder, IsKnown, request_at, permit_at, quiet}
-use Rattle.band_play.proofs.Lists.{by_bool, at_set_same, cond_true, cond_false, each_at_find, find_passes}
+use Rattle.band_play.specs.Table.{StandsAt, StandsUnder, IsKnown, request_at, permit_at}
+use Rattle.band_play.proofs.Lists.{by_bool, at_set_same, cond_false}
 use Rattle.band_play.proofs.Standing.{same_bytes, bytes_same}
 use Rattle.band_play.specs.Names.{Updated}
-use Rattle.band_play.proofs.Change.{place_of, all_weaker, stays, Keeps}
-use Rattle.band_play.proofs.Distinct.{others_stay, once_push, once_without}
-use Rattle.band_play.proofs.Turns.{TurnsTo, turns_to, with_object, quieted, quiet_line, slot_same, slots_one, tags_one, apart_on, tags_apart}
+use Rattle.band_play.proofs.Change.{place_of, all_weaker}
+use Rattle.band_play.proofs.Distinct.{others_stay, once_push}
+use Rattle.band_play.proofs.Turns.{TurnsTo, turns_to, with_object, quieted, quiet_line, slot_same, slots_one, apart_on}
 
 -- the table as it is, at one name
 pub unchanged : (table : List ℕ → Option Thing) (m : List ℕ) → Updated table table m (table m)

@@ -1,12 +1,12 @@
 -- What a sound table gives: each thing in it is one that its semaphores know.
-use Rattle.std.proofs.Common.{◌≡◌, ◌≢◌, ℕ, ◌+◌, ◌<◌, ◌≤◌, List, [], ◌∷◌, ◌++◌, Option, Some, None, Result, Ok, Err, refl, sym, ap, ◌∙◌, subst, arith, length}
+use Rattle.std.proofs.Common.{◌≡◌, ℕ, ◌<◌, ◌≤◌, List, [], Option, Some, None, Ok, sym, subst, arith, length}
 use Rattle.std.proofs.Math.Logic.{∥∥₁_elim, ∥∥₁_map}
 use Rattle.std.proofs.Props.{props}
-use Rattle.std.specs.List.{slice_get, slice_set}
-use Rattle.std.proofs.lemmas.Option.{none-some, same_Some, slice_get_within}
-use Rattle.band_balance.specs.Line.{Entry, total, entry_named, requests, without}
+use Rattle.std.specs.List.{slice_get}
+use Rattle.std.proofs.lemmas.Option.{slice_get_within}
+use Rattle.band_balance.specs.Line.{total, entry_named}
 use Rattle.band_balance.proofs.Settle.{total-without}
-use Rattle.band_sem.specs.Semaphore.{SemaphoreState, is_slot, IsOwn}
+use Rattle.band_sem.specs.Semaphore.{SemaphoreState, IsOwn}
 use Rattle.band_sem.specs.Request.{Request}
 use Rattle.band_sem.specs.Permit.{Permit}
 use Rattle.band_sem.specs.declared.acquire.Stage.{Stage}
@@ -18,10 +18,10 @@ use Rattle.band_play.specs.declared.reply.Reply.{Reply}
 use Rattle.band_play.specs.Names.{thing_at}
 use Rattle.band_play.specs.State.{State, Named, is_tag, permit_tag}
 use Rattle.band_play.specs.Step.{Outcome}
-use Rattle.band_play.specs.Table.{StandsAt, StandsUnder, Stands, IsKnown}
+use Rattle.band_play.specs.Table.{StandsUnder, IsKnown}
 use Rattle.band_play.specs.Moves.{IsFit, FitsRequest, FitsPermit, IsJoined, IsNumbered, object_of}
-use Rattle.band_play.specs.Kept.{IsSound, StandsFor, Follows, Remains, Stays, OthersQuiet, wakes_left, wakes_of}
-use Rattle.band_play.proofs.Lists.{also_at, at_set_same}
+use Rattle.band_play.specs.Kept.{IsSound, Follows, Remains, OthersQuiet, wakes_left}
+use Rattle.band_play.proofs.Lists.{also_at}
 use Rattle.band_play.proofs.Follow.{all_quiet, object_from}
 
 -- no object has wakers to take
@@ -69,13 +69,13 @@ module _ (names : ℕ → ℕ → _) (table : List ℕ → Option Thing) (sems :
   fit_from name (things.Object place) (named, there, called) = omega (arith, slice_get_within state place named there, stands.size)
   fit_from name (things.Request place request) (sem, slot, there, is, own, called) =
       subst (λ o. FitsRequest o request) (sym there)
-        (subst (λ (r : Request). IsJoined r.stage × (r.of ≡ sem.number) × IsOwn r.stage r.size sem.line) (sym is)
-          (tt, sym (numbered place sem there), own))
+      (subst (λ (r : Request). IsJoined r.stage × (r.of ≡ sem.number) × IsOwn r.stage r.size sem.line) (sym is)
+      (tt, sym (numbered place sem there), own))
   fit_from name (things.Permit permit) (named, there, own) =
       let other = also_at sems state permit.of named stands.size there in
       let at = stands.each permit.of other.0 named other.1 there in
       subst (λ o. FitsPermit o permit) (sym other.1)
-        (sym at.number, held_enough named other.0 at.held own)
+      (sym at.number, held_enough named other.0 at.held own)
     where
       held_enough : (named : Named) (sem : SemaphoreState) → total named.object.held ≡ sem.held → entry_named (is_tag name) named.object.held ≡ Some (record { name = permit_tag name; size = permit.count }) → permit.count ≤ sem.held
       held_enough named sem held own =
@@ -92,7 +92,7 @@ module _ (names : ℕ → ℕ → _) (table : List ℕ → Option Thing) (sems :
 pub fits_in : (table : Table) (name : List ℕ) (thing : Thing) → IsSound table → thing_at table.names name ≡ Some thing → IsFit table.objects.items thing
 fits_in table name thing sound is =
     ∥∥₁_elim sound.stood (fit-prop table.objects.items thing)
-      (λ stands. fits_at stands.1.0 (thing_at table.names) table.objects.items stands.0 stands.1.1 name thing is)
+    (λ stands. fits_at stands.1.0 (thing_at table.names) table.objects.items stands.0 stands.1.1 name thing is)
 
 pub object_in : (table : Table) (of : List ℕ) (place : ℕ) → IsSound table → object_of (thing_at table.names of) ≡ Ok place → place < length table.objects.items
 object_in table of place sound is = fits_in table of (things.Object place) sound (object_from (thing_at table.names of) place is)
@@ -100,4 +100,4 @@ object_in table of place sound is = fits_in table of (things.Object place) sound
 pub numbered_in : (table : Table) (place : ℕ) → IsSound table → IsNumbered table.objects.items place
 numbered_in table place sound =
     ∥∥₁_elim sound.stood (hlevel props)
-      (λ stands. numbered stands.1.0 (thing_at table.names) table.objects.items stands.0 stands.1.1 place)
+    (λ stands. numbered stands.1.0 (thing_at table.names) table.objects.items stands.0 stands.1.1 place)

@@ -1,21 +1,17 @@
 -- What a name is in a state is what the table has at it.
-use Rattle.std.proofs.Common.{◌≡◌, ℕ, ◌+◌, ◌||◌, Bool, true, false, cond, List, [], ◌∷◌, ◌++◌, map, Option, Some, None, ◌⊎◌, inl, inr, refl, sym, ap, ◌∙◌, subst, arith, length, zero-add}
-use Rattle.std.specs.List.{AllByRecursion, list_any, find, slice_get}
+use Rattle.std.proofs.Common.{◌≡◌, ℕ, ◌+◌, ◌||◌, true, false, List, [], ◌∷◌, map, Option, Some, None, ◌⊎◌, inl, inr, refl, sym, ap, ◌∙◌, subst, zero-add}
+use Rattle.std.specs.List.{list_any}
 use Rattle.std.specs.Str.{bytes_eq}
 use Rattle.std.proofs.lemmas.Bool.{false≢true}
-use Rattle.std.proofs.lemmas.Option.{none-some, same_Some}
 use Rattle.std.proofs.lemmas.Slice.Eq.{bytes_eq-Decides}
-use Rattle.band_balance.specs.Line.{Entry, Line, requests, rename, renamed, renamed_waiting, entry_of, entry_named}
+use Rattle.band_balance.specs.Line.{Entry, requests, rename, renamed}
 use Rattle.band_balance.proofs.Rename.{requests-rename}
 use Rattle.band_sem.specs.Semaphore.{SemaphoreState, is_slot}
-use Rattle.band_sem.specs.Request.{Request}
-use Rattle.band_sem.specs.Permit.{Permit}
-use Rattle.band_sem.specs.declared.acquire.Stage.TheVariants.{Joined}
 use Rattle.band_play.specs.declared.thing.Thing.{Thing}
 use Rattle.band_play.specs.declared.thing.Thing.TheVariants as things
 use Rattle.band_play.specs.State.{State, Named, Tag, is_tag, permit_tag, stands_in, Standing, Absent, AnObject, ARequest, AHolding, standing, standing_from}
-use Rattle.band_play.specs.Table.{StandsAt, StandsUnder, IsKnown, request_at, permit_at, quiet}
-use Rattle.band_play.proofs.Lists.{by_test, by_bool, passing, any_from_find, Along, along_from_places, Somewhere, somewhere_at, also_at}
+use Rattle.band_play.specs.Table.{StandsAt, StandsUnder, IsKnown, quiet}
+use Rattle.band_play.proofs.Lists.{by_test, passing, any_from_find, Along, along_from_places, Somewhere, somewhere_at, also_at}
 
 -- equal bytes
 pub same_bytes : (a b : List ℕ) → bytes_eq a b ≡ true → a ≡ b

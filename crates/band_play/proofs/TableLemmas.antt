@@ -1,15 +1,16 @@
 -- What each call of the table comes to, from what its parts did.
-use Rattle.std.proofs.Common.{◌≡◌, ◌≢◌, ℕ, ◌+◌, ◌<◌, ◌^◌, ◌≤◌, List, [], ◌∷◌, ◌++◌, Option, Some, None, Result, Ok, Err, zero, suc, refl, sym, ap, ◌∙◌, subst, arith, length}
-use Rattle.std.specs.List.{slice_get, slice_set}
+use Rattle.std.proofs.lemmas.Bool.{false≢true}
+use Rattle.std.proofs.Common.{◌≡◌, ℕ, ◌<◌, ◌^◌, Bool, true, false, cond, List, [], ◌∷◌, ◌++◌, Option, Some, None, Result, Ok, Err, zero, suc, refl, sym, ap, ◌∙◌, subst, arith, length}
+use Rattle.std.specs.List.{slice_get}
 use Rattle.std.specs.Map.{lookup}
 use Rattle.std.specs.BTreeMap.{BTreeMap, IsUnchanged, is_at}
 use Rattle.std.specs.Ordering.{nat_cmp}
 use Rattle.std.specs.Cmp.Lexicographic.{slice_cmp}
 use Rattle.std.specs.Option.{IsSome}
-use Rattle.std.proofs.lemmas.Option.{none-some, same_Some}
+use Rattle.std.specs.Result.{OnErr, is_ok}
+use Rattle.std.proofs.lemmas.Option.{none-some}
 use Rattle.band_balance.specs.Object.{new_semaphore}
-use Rattle.band_sem.specs.Semaphore.{SemaphoreState, cancelled}
-use Rattle.band_sem.specs.Permit.{Permit}
+use Rattle.band_sem.specs.Semaphore.{SemaphoreState}
 use Rattle.band_sem.specs.Request.{Request}
 use Rattle.band_sem.specs.declared.refusal.Refusal.{Refusal}
 use Rattle.band_sem.specs.declared.refusal.Refusal.TheVariants as refusals
@@ -19,13 +20,14 @@ use Rattle.band_play.specs.declared.thing.Thing.TheVariants as things
 use Rattle.band_play.specs.declared.table.Table.{Table}
 use Rattle.band_play.specs.declared.reply.Reply.{Reply}
 use Rattle.band_play.specs.declared.reply.Reply.TheVariants as replies
-use Rattle.band_play.specs.Names.{thing_at, Updated}
-use Rattle.band_play.specs.State.{State, standing}
+use Rattle.band_play.specs.Names.{thing_at, Updated, is_object}
+use Rattle.band_play.specs.State.{standing}
 use Rattle.band_play.specs.Step.{asking, polling, dropping, making}
-use Rattle.band_play.specs.Table.{StandsUnder, Stands}
-use Rattle.band_play.specs.Moves.{PollsRequest, PollsThing, DropsThing, Becomes, object_of, place_at, given_back}
-use Rattle.band_play.specs.Kept.{IsSound, StandsFor, Follows, Remains, Stays, OthersQuiet, wakes_left, wakes_of}
-use Rattle.band_play.proofs.Follow.{Matches, same_table, unchanged_table, refused_follows, ask_refused, ask_taken, ask_follows, poll_unknown, poll_follows, drop_unknown, drop_object, drop_request, drop_permit, quiet_at, others_quiet, all_quiet}
+use Rattle.band_play.specs.Table.{Stands, IsKnown}
+use Rattle.band_balance.specs.Object.{Permit}
+use Rattle.band_play.specs.Moves.{PollsRequest, PollsThing, DropsThing, object_of, place_at}
+use Rattle.band_play.specs.Kept.{IsSound, Follows, Remains, Stays, OthersQuiet, wakes_left, wakes_of}
+use Rattle.band_play.proofs.Follow.{Matches, unchanged_table, refused_follows, ask_refused, ask_taken, ask_follows, poll_unknown, poll_follows, drop_unknown, drop_object, drop_request, drop_permit, others_quiet}
 use Rattle.band_play.proofs.Making.{make_taken, make_follows, fresh, quiet_push}
 use Rattle.band_play.proofs.Sound.{quiet_all, sound_after, sound_still}
 
@@ -49,16 +51,23 @@ some_there [] k h = absurd (omega arith)
 some_there (x ∷ xs) zero h = (x, refl)
 some_there (x ∷ xs) (suc k) h = some_there xs k (omega arith)
 
+object_from_test : (o : Option Thing) → is_object o ≡ true → (place : ℕ) × (o ≡ Some (things.Object place))
+object_from_test None h = absurd (false≢true h)
+object_from_test (Some (things.Object place)) h = (place, refl)
+object_from_test (Some (things.Request place request)) h = absurd (false≢true h)
+object_from_test (Some (things.Permit permit)) h = absurd (false≢true h)
+
 -- the same names and objects
 pub remains : (old new : Table) → ((name : List ℕ) → thing_at new.names name ≡ thing_at old.names name) → new.objects.items ≡ old.objects.items → Remains old new
 remains old new same objects state stands =
     subst (λ (s : List SemaphoreState). Stands (thing_at new.names) s state) (sym objects)
-      (stands.0, unchanged_table stands.0 (thing_at old.names) (thing_at new.names) old.objects.items state same stands.1)
+    (stands.0, unchanged_table stands.0 (thing_at old.names) (thing_at new.names) old.objects.items state same stands.1)
 
 pub stays : (old new : Table) → ((name : List ℕ) → thing_at new.names name ≡ thing_at old.names name) → new.objects.items ≡ old.objects.items → new.last ≡ old.last → Stays old new
-stays old new same objects last =
-    (remains old new same objects,
-     ap (λ (s : List SemaphoreState). wakes_of (slice_get s new.last)) objects ∙ ap (λ k. wakes_of (slice_get old.objects.items k)) last)
+stays old new same objects last = (
+  remains old new same objects,
+  ap (λ (s : List SemaphoreState). wakes_of (slice_get s new.last)) objects ∙ ap (λ k. wakes_of (slice_get old.objects.items k)) last,
+)
 
 pub others_stay : (old new : Table) → IsSound old → new.objects.items ≡ old.objects.items → new.last ≡ old.last → OthersQuiet new.last new.objects.items
 others_stay old new sound objects last =
@@ -88,7 +97,7 @@ module _ (old : Table) (sound : IsSound old) (none : wakes_left old ≡ []) wher
       let sem = some_there sems place there in
       let thing = some_of (at_old made) live in
       refused_follows stands.0 at_old sems state old.last _ refusals.Taken stands.1 none
-        (ask_taken stands.0 at_old sems state stands.1 made of n waker place sem.0 thing.0 object sem.1 thing.1)
+      (ask_taken stands.0 at_old sems state stands.1 made of n waker place sem.0 thing.0 object sem.1 thing.1)
 
   module _ (new : Table) where
     abbrev at_new : List ℕ → Option Thing
@@ -99,26 +108,34 @@ module _ (old : Table) (sound : IsSound old) (none : wakes_left old ≡ []) wher
         → Follows (λ state. asking (standing of state) made n waker state) old reply new
     ask_done made of n waker place thing reply object absent update polls last state stands =
         subst (λ k. Matches (asking (standing of state) made n waker state) reply at_new k new.objects.items) (sym last)
-          (ask_follows stands.0 at_old sems state stands.1 at_new new.objects.items made of n waker place thing reply object absent quiet update polls)
+        (ask_follows stands.0 at_old sems state stands.1 at_new new.objects.items made of n waker place thing reply object absent quiet update polls)
 
     pub polls_quiet : (place : ℕ) (request : Request) (waker : ℕ) (thing : Thing) (reply : Reply) → PollsRequest place request waker sems thing reply new.objects.items → new.last ≡ place → OthersQuiet new.last new.objects.items
     polls_quiet place request waker thing reply polls last =
         subst (λ k. OthersQuiet k new.objects.items) (sym last)
-          (subst (λ (s : List SemaphoreState). OthersQuiet place s) (sym polls.set) (others_quiet sems place polls.after quiet))
+        (subst (λ (s : List SemaphoreState). OthersQuiet place s) (sym polls.set) (others_quiet sems place polls.after quiet))
 
     pub poll_none : (name : List ℕ) (waker : ℕ) → at_old name ≡ None → ((n : List ℕ) → at_new n ≡ at_old n) → new.objects.items ≡ sems → new.last ≡ old.last
         → Follows (λ state. polling (standing name state) name waker state) old (replies.Refused refusals.Unknown) new
     poll_none name waker absent same objects last state stands =
         let said = poll_unknown stands.0 at_old sems state stands.1 quiet name waker old.last absent in
         subst (λ k. Matches (polling (standing name state) name waker state) (replies.Refused refusals.Unknown) at_new k new.objects.items) (sym last)
-          (subst (λ (s : List SemaphoreState). Matches (polling (standing name state) name waker state) (replies.Refused refusals.Unknown) at_new old.last s) (sym objects)
-            (said.0, said.1, (said.2.0, unchanged_table said.2.0 at_old at_new sems _ same said.2.1)))
+        (subst (λ (s : List SemaphoreState). Matches (polling (standing name state) name waker state) (replies.Refused refusals.Unknown) at_new old.last s) (sym objects)
+        (said.0, said.1, (said.2.0, unchanged_table said.2.0 at_old at_new sems _ same said.2.1)))
+
+    pub drop_none : (name : List ℕ) → at_old name ≡ None → ((n : List ℕ) → at_new n ≡ at_old n) → new.objects.items ≡ sems → new.last ≡ old.last
+        → Follows (λ state. dropping (standing name state) name state) old (replies.Refused refusals.Unknown) new
+    drop_none name absent same objects last state stands =
+        let said = drop_unknown stands.0 at_old sems state stands.1 quiet name old.last absent in
+        subst (λ k. Matches (dropping (standing name state) name state) (replies.Refused refusals.Unknown) at_new k new.objects.items) (sym last)
+        (subst (λ (s : List SemaphoreState). Matches (dropping (standing name state) name state) (replies.Refused refusals.Unknown) at_new old.last s) (sym objects)
+        (said.0, said.1, (said.2.0, unchanged_table said.2.0 at_old at_new sems _ same said.2.1)))
 
     pub poll_done : (name : List ℕ) (waker : ℕ) (found thing : Thing) (reply : Reply) → at_old name ≡ Some found → PollsThing found waker sems thing reply new.objects.items → Updated at_old at_new name (Some thing) → new.last ≡ place_at found
         → Follows (λ state. polling (standing name state) name waker state) old reply new
     poll_done name waker found thing reply is polls update last state stands =
         subst (λ k. Matches (polling (standing name state) name waker state) reply at_new k new.objects.items) (sym last)
-          (poll_follows stands.0 at_old sems state stands.1 quiet at_new new.objects.items name waker found thing reply is polls update)
+        (poll_follows stands.0 at_old sems state stands.1 quiet at_new new.objects.items name waker found thing reply is polls update)
 
     all_others : (place : ℕ) → new.objects.items ≡ sems → OthersQuiet place new.objects.items
     all_others place objects = subst (λ (s : List SemaphoreState). OthersQuiet place s) (sym objects) (λ k s apart there. quiet k s there)
@@ -132,7 +149,7 @@ module _ (old : Table) (sound : IsSound old) (none : wakes_left old ≡ []) wher
     pub poll_sound : (name : List ℕ) (waker : ℕ) (found thing : Thing) (reply : Reply) → at_old name ≡ Some found → PollsThing found waker sems thing reply new.objects.items → Updated at_old at_new name (Some thing) → new.last ≡ place_at found → IsSound new
     poll_sound name waker found thing reply is polls update last =
         sound_after (λ state. polling (standing name state) name waker state) old reply new sound (poll_done name waker found thing reply is polls update last)
-          (subst (λ k. OthersQuiet k new.objects.items) (sym last) (poll_others waker found thing reply polls))
+        (subst (λ k. OthersQuiet k new.objects.items) (sym last) (poll_others waker found thing reply polls))
 
     drop_others : (found : Thing) → DropsThing found sems new.objects.items → OthersQuiet (place_at found) new.objects.items
     drop_others (things.Object place) objects = all_others place objects
@@ -142,28 +159,28 @@ module _ (old : Table) (sound : IsSound old) (none : wakes_left old ≡ []) wher
         subst (λ (s : List SemaphoreState). OthersQuiet place s) (sym becomes.set) (others_quiet sems place _ quiet)
 
     -- what was dropped is no object
-    pub drop_done : (name : List ℕ) (found : Thing) → ((place : ℕ) → found ≡ things.Object place → ⊥) → at_old name ≡ Some found → DropsThing found sems new.objects.items → Updated at_old at_new name None → new.last ≡ place_at found
+    pub drop_done : (name : List ℕ) (found : Thing) → is_object (Some found) ≡ false → at_old name ≡ Some found → DropsThing found sems new.objects.items → Updated at_old at_new name None → new.last ≡ place_at found
         → Follows (λ state. dropping (standing name state) name state) old replies.Done new
-    drop_done name (things.Object place) apart is drops update last state stands = absurd (apart place refl)
+    drop_done name (things.Object place) apart is drops update last state stands = absurd (false≢true (sym apart))
     drop_done name (things.Permit permit) apart is drops update last state stands =
         subst (λ k. Matches (dropping (standing name state) name state) replies.Done at_new k new.objects.items) (sym last)
-          (drop_permit stands.0 at_old sems state stands.1 quiet at_new new.objects.items name permit is drops update)
+        (drop_permit stands.0 at_old sems state stands.1 quiet at_new new.objects.items name permit is drops update)
     drop_done name (things.Request place request) apart is drops update last state stands =
         subst (λ k. Matches (dropping (standing name state) name state) replies.Done at_new k new.objects.items) (sym last)
-          (drop_request stands.0 at_old sems state stands.1 quiet at_new new.objects.items name place request is drops update)
+        (drop_request stands.0 at_old sems state stands.1 quiet at_new new.objects.items name place request is drops update)
 
-    pub drop_sound : (name : List ℕ) (found : Thing) → ((place : ℕ) → found ≡ things.Object place → ⊥) → at_old name ≡ Some found → DropsThing found sems new.objects.items → Updated at_old at_new name None → new.last ≡ place_at found → IsSound new
+    pub drop_sound : (name : List ℕ) (found : Thing) → is_object (Some found) ≡ false → at_old name ≡ Some found → DropsThing found sems new.objects.items → Updated at_old at_new name None → new.last ≡ place_at found → IsSound new
     drop_sound name found apart is drops update last =
         sound_after (λ state. dropping (standing name state) name state) old replies.Done new sound (drop_done name found apart is drops update last)
-          (subst (λ k. OthersQuiet k new.objects.items) (sym last) (drop_others found drops))
+        (subst (λ k. OthersQuiet k new.objects.items) (sym last) (drop_others found drops))
 
     -- a new semaphore
     pub make_done : (made : List ℕ) (n : ℕ) → n < 2 ^ 64 → at_old made ≡ None → Updated at_old at_new made (Some (things.Object (length sems))) → new.objects.items ≡ sems ++ fresh (length sems) n ∷ []
         → Follows (making made (new_semaphore n)) old replies.Done new
     make_done made n fits absent update objects state stands =
         subst (λ (s : List SemaphoreState). Matches (making made (new_semaphore n) state) replies.Done at_new new.last s) (sym objects)
-          (make_follows stands.0 at_old sems state stands.1 at_new made n fits absent update new.last
-            (pushed_quiet (slice_get (sems ++ fresh (length sems) n ∷ []) new.last) (quiet_push sems (length sems) n quiet new.last)))
+        (make_follows stands.0 at_old sems state stands.1 at_new made n fits absent update new.last
+        (pushed_quiet (slice_get (sems ++ fresh (length sems) n ∷ []) new.last) (quiet_push sems (length sems) n quiet new.last)))
       where
         pushed_quiet : (o : Option SemaphoreState) → ((s : SemaphoreState) → o ≡ Some s → s.line.wakes ≡ []) → wakes_of o ≡ []
         pushed_quiet None each = refl
@@ -172,15 +189,43 @@ module _ (old : Table) (sound : IsSound old) (none : wakes_left old ≡ []) wher
     pub make_sound : (made : List ℕ) (n : ℕ) → n < 2 ^ 64 → at_old made ≡ None → Updated at_old at_new made (Some (things.Object (length sems))) → new.objects.items ≡ sems ++ fresh (length sems) n ∷ [] → IsSound new
     make_sound made n fits absent update objects =
         sound_after (making made (new_semaphore n)) old replies.Done new sound (make_done made n fits absent update objects)
-          (subst (λ (s : List SemaphoreState). OthersQuiet new.last s) (sym objects) (λ k s apart there. quiet_push sems (length sems) n quiet k s there))
+        (subst (λ (s : List SemaphoreState). OthersQuiet new.last s) (sym objects) (λ k s apart there. quiet_push sems (length sems) n quiet k s there))
 
   pub make_takes : (made : List ℕ) (n : ℕ) → IsSome (at_old made) → Follows (making made (new_semaphore n)) old (replies.Refused refusals.Taken) old
   make_takes made n live state stands =
       let thing = some_of (at_old made) live in
       make_taken stands.0 at_old sems state stands.1 made n old.last thing.0 quiet thing.1
 
-  pub drop_none : (name : List ℕ) → at_old name ≡ None → Follows (λ state. dropping (standing name state) name state) old (replies.Refused refusals.Unknown) old
-  drop_none name absent state stands = drop_unknown stands.0 at_old sems state stands.1 quiet name old.last absent
+  pub drop_kind : (name : List ℕ) → is_object (at_old name) ≡ true → Follows (λ state. dropping (standing name state) name state) old (replies.Refused refusals.Kind) old
+  drop_kind name is state stands =
+      let object = object_from_test (at_old name) is in
+      drop_object stands.0 at_old sems state stands.1 quiet name old.last object.0 object.1
 
-  pub drop_kind : (name : List ℕ) (place : ℕ) → at_old name ≡ Some (things.Object place) → Follows (λ state. dropping (standing name state) name state) old (replies.Refused refusals.Kind) old
-  drop_kind name place is state stands = drop_object stands.0 at_old sems state stands.1 quiet name old.last place is
+pub none_from : {A : Type 0} (o : Option A) (b : Bool) → (IsSome o → b ≡ true) → b ≡ false → o ≡ None
+none_from None b live test = refl
+none_from (Some x) b live test = absurd (false≢true (sym test ∙ live refl))
+
+-- what holds holds at an error
+pub on_err : {A E : Type 0} (result : Result A E) (P : Type 0) → P → OnErr result P
+on_err (Ok x) P p = tt
+on_err (Err e) P p = p
+
+-- the place of a new object is the number of those before it
+pub object_placed : (table table' : List ℕ → Option Thing) (name : List ℕ) (place count : ℕ) → place ≡ count → Updated table table' name (Some (things.Object place)) → Updated table table' name (Some (things.Object count))
+object_placed table table' name place count same update = subst (λ k. Updated table table' name (Some (things.Object k))) same update
+
+pub pushed : {A E : Type 0} (old room new : List SemaphoreState) (result : Result A E) (x : A) (sem : SemaphoreState) (place n : ℕ)
+    → new ≡ cond (is_ok result) (room ++ sem ∷ []) room → result ≡ Ok x → room ≡ old → sem ≡ fresh place n → place ≡ length old → new ≡ old ++ fresh (length old) n ∷ []
+pushed old room new result x sem place n items ok same is count =
+    items ∙ ap (λ r. cond (is_ok r) (room ++ sem ∷ []) room) ok ∙ ap (λ (xs : List SemaphoreState). xs ++ sem ∷ []) same ∙ ap (λ (s : SemaphoreState). old ++ s ∷ []) (is ∙ ap (λ k. fresh k n) count)
+
+-- nothing stands for the state with no object
+pub stands_nowhere : (names : BTreeMap (List ℕ) Thing) (sems : List SemaphoreState) → names.entries ≡ [] → sems ≡ [] → Stands (thing_at names) sems []
+stands_nowhere names sems no_names no_sems = (
+  (λ place slot. record { name = []; mode = Permit }),
+  record {
+    size = ap length no_sems;
+    each = λ place sem named at_sem at_named. absurd (none-some named at_named);
+    every = λ name. subst (λ (o : Option Thing). IsKnown (λ place slot. record { name = []; mode = Permit }) sems [] name o) (sym (ap (λ es. lookup (is_at (slice_cmp nat_cmp name)) es) no_names)) tt;
+  },
+)

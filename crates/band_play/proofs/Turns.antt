@@ -1,30 +1,21 @@
 -- A call on one object: the table and the semaphores stand for what the turn leaves.
-use Rattle.std.proofs.Common.{◌≡◌, ℕ, ◌+◌, ◌-◌, ◌==◌, Bool, true, false, cond, List, [], ◌∷◌, ◌++◌, map, Option, Some, None, option_map, ◌⊎◌, inl, inr, refl, sym, ap, ap₂, ◌∙◌, subst, arith, length, zero-add, nat_eq}
-use Rattle.std.specs.List.{AllByRecursion, list_any, find, slice_get, slice_set, IsDistinct}
-use Rattle.std.specs.Option.{option_or}
+use Rattle.std.proofs.Common.{◌≡◌, ℕ, true, false, List, [], ◌∷◌, map, Option, Some, refl, sym, ap, ◌∙◌, nat_eq}
+use Rattle.std.specs.List.{AllByRecursion, slice_get, slice_set, IsDistinct}
 use Rattle.std.specs.Str.{bytes_eq}
 use Rattle.std.proofs.lemmas.Bool.{false≢true, eqb-true}
 use Rattle.std.proofs.lemmas.Bool.Decides.{Decides-eqb}
-use Rattle.std.proofs.lemmas.Option.{none-some, same_Some}
-use Rattle.band_balance.specs.Line.{Entry, Waiting, Line, requests, rename, renamed, entry_of, entry_named, total, is_served, take_permits, give_back, join, poll_granted, poll_waiting, cancel, without}
-use Rattle.band_balance.specs.Object.{Object, Kind, Semaphore, Turn, Answer, Ready, Pending, Done, turn, ask, poll, poll_of, drop, drop_of, hold}
-use Rattle.band_balance.proofs.Rename.{is_served-rename, rename_agree, join-rename, poll_granted-rename, poll_waiting-rename, cancel-rename_requests, give_back-rename, all_of_first, all_of_second, all_of_both, entry_named-rename, requests-rename}
-use Rattle.band_balance.proofs.Requests.{requests-join, requests-poll_waiting, requests-poll_granted, requests-cancel, requests-give_back, entry_named-join_itself, entry_named-join_other, entry_named-without_other, entry_named-append}
-use Rattle.band_balance.proofs.Settle.{total-append, total-without}
+use Rattle.band_balance.specs.Line.{Entry, Line, requests, rename, total}
+use Rattle.band_balance.specs.Object.{Object, Turn, Answer, turn}
 use Rattle.band_sem.specs.Semaphore.{SemaphoreState, is_slot, IsLawful}
-use Rattle.band_sem.specs.Request.{Request}
-use Rattle.band_sem.specs.Permit.{Permit}
-use Rattle.band_sem.specs.declared.acquire.Stage.{Stage}
-use Rattle.band_sem.specs.declared.acquire.Stage.TheVariants.{NotPolled, Joined, Finished}
 use Rattle.band_play.specs.declared.thing.Thing.{Thing}
 use Rattle.band_play.specs.declared.thing.Thing.TheVariants as things
-use Rattle.band_play.specs.State.{State, Named, Tag, is_tag, permit_tag}
+use Rattle.band_play.specs.State.{State, Named, Tag, is_tag}
 use Rattle.band_play.specs.Table.{StandsAt, StandsUnder, IsKnown, request_at, permit_at, quiet}
-use Rattle.band_play.proofs.Lists.{by_bool, also_at, at_set_same, at_set_other, cond_true, cond_false, each_at_find, find_passes}
+use Rattle.band_play.proofs.Lists.{by_bool}
 use Rattle.band_play.proofs.Standing.{same_bytes, bytes_same}
 use Rattle.band_play.specs.Names.{Updated}
-use Rattle.band_play.proofs.Change.{place_of, all_weaker, stays, stands_still, Keeps, stands_after}
-use Rattle.band_play.proofs.Distinct.{names_of, MeansOne, others_stay, once_without, once_push}
+use Rattle.band_play.proofs.Change.{place_of, stays, Keeps, stands_after}
+use Rattle.band_play.proofs.Distinct.{MeansOne}
 
 -- the object with this name afterwards
 abbrev pub with_object : Named → Object Tag → Named

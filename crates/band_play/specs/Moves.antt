@@ -13,6 +13,7 @@ use Rattle.band_sem.specs.Permit.{Permit}
 use Rattle.band_sem.specs.Request.{Request}
 use Rattle.band_play.specs.declared.reply.Reply.{Reply}
 use Rattle.band_play.specs.declared.reply.Reply.TheVariants as replies
+use Rattle.band_play.specs.Names.{Updated}
 use Rattle.band_play.specs.declared.thing.Thing.{Thing}
 use Rattle.band_play.specs.declared.thing.Thing.TheVariants as things
 
@@ -94,3 +95,12 @@ abbrev pub place_at : Thing → ℕ
 place_at (things.Object place) = place
 place_at (things.Request place request) = place
 place_at (things.Permit permit) = permit.of
+
+-- a poll of what a name is: the place of its object, and the reply
+pub record PollsName (name : List ℕ) (waker : ℕ) (table table' : List ℕ → Option Thing) (old new : List SemaphoreState) (place : ℕ) (reply : Reply) : Type 0 where
+  pub found : Thing
+  pub left : Thing
+  pub was : table name ≡ Some found
+  pub at : place ≡ place_at found
+  pub polled : PollsThing found waker old left reply new
+  pub updated : Updated table table' name (Some left)

@@ -1,5 +1,7 @@
 -- What contracts say of a player.
 use Rattle.std.specs.Prelude.{◌≡◌, ℕ, List}
+use Rattle.band_play.specs.declared.call.Call.{Call}
+use Rattle.band_play.specs.declared.call.Call.TheVariants.{Sem, Ask, Poll, Drop}
 use Rattle.band_play.specs.declared.player.Player.{Player}
 use Rattle.band_play.specs.declared.reply.Reply.{Reply}
 use Rattle.band_play.specs.State.{State}
@@ -23,3 +25,10 @@ Follows call old reply new =
 -- it has come to what it had come to
 abbrev pub Stays : Player → Player → Type 0
 Stays old new = (state : State) → StandsFor old state → StandsFor new state
+
+-- a poll and a drop take no memory
+abbrev pub TakesNoMemory : Call → Type 0
+TakesNoMemory (Sem made n) = ⊥
+TakesNoMemory (Ask made of n waker) = ⊥
+TakesNoMemory (Poll name waker) = Unit {0}
+TakesNoMemory (Drop name) = Unit {0}

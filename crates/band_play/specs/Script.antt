@@ -1,10 +1,10 @@
 -- A script: its lines, the calls that they stand for, its transcript, and the outcome of its bytes.
-use Rattle.std.specs.Prelude.{ℕ, ◌+◌, ◌<◌, Bool, true, false, ◌==◌, nat_lt, List, [], ◌∷◌, ◌++◌, length, take, Option, Some, None, if◌then◌else◌}
+use Rattle.std.specs.Prelude.{ℕ, ◌+◌, Bool, true, false, ◌==◌, nat_lt, List, [], ◌∷◌, ◌++◌, length, take, Option, Some, None}
 use Rattle.std.specs.List.{slice_split}
 use Rattle.band_play.specs.declared.call.Call.{Call}
 use Rattle.band_play.specs.Grammar.{call_of}
 use Rattle.band_play.specs.State.{State}
-use Rattle.band_play.specs.Step.{Outcome, step}
+use Rattle.band_play.specs.Step.{step}
 use Rattle.band_play.specs.Text.{text_of}
 
 -- the texts of calls from a state, joined

@@ -1,12 +1,10 @@
 -- How the player's table and semaphores stand for a state.
-use Rattle.std.specs.Prelude.{◌≡◌, ℕ, Bool, List, [], Option, Some, None, length, slice_get, nat_eq, map}
+use Rattle.std.specs.Prelude.{◌≡◌, ℕ, List, [], Option, Some, None, length, slice_get, map}
 use Rattle.std.specs.List.{AllByRecursion, IsDistinct}
 use Rattle.std.specs.Str.{bytes_eq}
 use Rattle.band_balance.specs.Line.{Entry, Line, requests, total, entry_named, rename}
-use Rattle.band_balance.specs.Object.{Object, Semaphore}
+use Rattle.band_balance.specs.Object.{Semaphore}
 use Rattle.band_sem.specs.Semaphore.{SemaphoreState, is_slot, IsLawful}
-use Rattle.band_sem.specs.Permit.{Permit}
-use Rattle.band_sem.specs.Request.{Request}
 use Rattle.band_sem.specs.declared.acquire.Stage.TheVariants.{Joined}
 use Rattle.band_play.specs.declared.thing.Thing.{Thing}
 use Rattle.band_play.specs.declared.thing.Thing.TheVariants as things

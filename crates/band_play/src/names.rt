@@ -1,7 +1,7 @@
 //! The table of names: what each live name is.
-ghost use Rattle.std.specs.Prelude.{◌≡◌, ◌↔◌, None, Some, IsSome, IfSome, OnOk, OnErr, IsTrue, MatchOption};
+ghost use Rattle.std.specs.Prelude.{◌≡◌, ◌↔◌, None, Some, IsSome, IfSome, OnOk, OnErr, IsTrue, IfNone};
 ghost use Rattle.std.specs.BTreeMap.{IsUnchanged};
-ghost use Rattle.band_play.specs.Names.{thing_at, Updated};
+ghost use Rattle.band_play.specs.Names.{thing_at, Updated, is_object};
 
 use crate::Name;
 use crate::thing::Thing;
@@ -16,6 +16,13 @@ pub(crate) fn is_live(names: &Names, name: &Name) -> bool
     ensures { IsTrue result ↔ IsSome (thing_at names.now name.now) }
 {
     names.contains_key(name)
+}
+
+/// Whether a name is an object's.
+pub(crate) fn is_object(names: &Names, name: &Name) -> bool
+    ensures { result ≡ is_object (thing_at names.now name.now) }
+{
+    matches!(names.get(name), Some(Thing::Object(_)))
 }
 
 /// Adds a name that isn't live, with an object in place of what it will be.
@@ -39,9 +46,10 @@ pub(crate) fn reserve(names: &mut Names, name: &Name) -> Result<(), AllocError>
 }
 
 /// Gives a live name another meaning, and answers the one before.
-pub(crate) fn replace(names: &mut Names, name: &Name, thing: Thing) -> Option<Thing>
+fn replace(names: &mut Names, name: &Name, thing: Thing) -> Option<Thing>
     ensures before { result ≡ thing_at names.old name.now }
     ensures updated { IfSome result (λ before. Updated (thing_at names.old) (thing_at names.new) name.now (Some thing)) }
+    ensures unchanged { IfNone result (IsUnchanged names.old names.new) }
 {
     match names.get_mut(name) {
         Some(place) => Some(mem::replace(place, thing)),

@@ -16,9 +16,9 @@ pub struct Player {
 }
 
 impl Player {
-    ghost use Rattle.std.specs.Prelude.{◌≡◌, [], ◌∷◌, IfOk, OnErr, MatchOption};
+    ghost use Rattle.std.specs.Prelude.{◌≡◌, [], ◌∷◌, IfOk, OnErr, IsOk, MatchOption};
     ghost use Rattle.band_play.specs.Step.{step};
-    ghost use Rattle.band_play.specs.Player.{StandsFor, Follows, Stays, wakers_left};
+    ghost use Rattle.band_play.specs.Player.{StandsFor, Follows, Stays, TakesNoMemory, wakers_left};
 
     /// No name.
     pub fn new(alloc: Global) -> Player
@@ -41,6 +41,7 @@ impl Player {
         requires { wakers_left self.old ≡ [] }
         ensures follows { IfOk result (λ reply. Follows (step call.now) self.old reply self.new) }
         ensures err { OnErr result (Stays self.old self.new × (wakers_left self.new ≡ [])) }
+        ensures succeeds { TakesNoMemory call.now → IsOk result }
     {
         match call {
             Call::Sem { made, n } => self.table.make_semaphore(self.alloc, made, *n),

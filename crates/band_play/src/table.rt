@@ -1,20 +1,23 @@
 //! What the player keeps: the names, and the objects by place.
-ghost use Rattle.std.specs.Prelude.{◌≡◌, [], OnOk, IfOk, OnErr, MatchOption, ◌∷◌, ◌<◌, length, Ok, Err};
+ghost use Rattle.std.specs.Prelude.{◌≡◌, [], OnOk, IfOk, OnErr, IfNone, IfSome, MatchOption, ◌∷◌, ◌<◌, length, None, Some};
 ghost use Rattle.band_balance.specs.Object.{new_semaphore};
 ghost use Rattle.band_sem.specs.declared.acquire.Stage.{Stage};
 ghost use Rattle.band_play.specs.Step.{making, asking, polling, dropping};
 ghost use Rattle.band_play.specs.State.{standing};
 ghost use Rattle.band_play.specs.Names.{thing_at};
-ghost use Rattle.band_play.specs.Moves.{PollsRequest, IsNumbered, object_of};
+ghost use Rattle.std.specs.BTreeMap.{IsUnchanged};
+ghost use Rattle.band_play.specs.declared.thing.Thing.{Thing as AnyThing};
+ghost use Rattle.band_play.specs.Moves.{PollsRequest, PollsName, IsFit, IsNumbered, object_of};
 ghost use Rattle.band_play.specs.Kept.{StandsFor, IsSound, Follows, Stays, Remains, wakes_left};
 
 use crate::names::{self, Names};
 use crate::thing::Thing;
 use crate::{Name, Reply};
-use band_base::{Poll, PollError, Steps, Waker};
+use band_base::{Poll, Steps, Waker};
 use band_sem::{Refusal, Semaphore};
 use std::alloc::{AllocError, Global};
 use std::collections::BTreeMap;
+use std::mem;
 use std::sync::ledger::Ledger;
 
 /// The names, the objects, and which of the objects was called last.
@@ -61,6 +64,26 @@ fn first_poll<L: Ledger>(
             Err(AllocError)
         }
     }
+}
+
+/// Polls what a name is, and answers the place of its object and the reply. None where the name isn't live.
+fn poll_name<L: Ledger>(
+    names: &mut Names,
+    objects: &mut Vec<Semaphore>,
+    name: &Name,
+    waker: Waker,
+    steps: &mut Steps<L>,
+) -> Option<(u64, Reply)>
+    requires { (thing : AnyThing) → thing_at names.old name.now ≡ Some thing → IsFit objects.old.items thing }
+    ensures none { IfNone result ((thing_at names.old name.now ≡ None) × IsUnchanged names.old names.new × (objects.new.items ≡ objects.old.items)) }
+    ensures some { IfSome result (λ polled. PollsName name.now waker.0 (thing_at names.old) (thing_at names.new) objects.old.items objects.new.items polled.0 polled.1) }
+{
+    let slot = names.get_mut(name)?;
+    let thing = mem::replace(slot, Thing::Object(0));
+    let place = thing.place();
+    let (thing, reply) = thing.poll(objects, waker, steps);
+    mem::replace(slot, thing).lose();
+    Some((place, reply))
 }
 
 impl Table {
@@ -149,13 +172,13 @@ impl Table {
         ensures follows { Follows (λ state. polling (standing name.now state) name.now waker.0 state) self.old result self.new }
         ensures sound { IsSound self.new }
     {
-        let Some(thing) = names::replace(&mut self.names, name, Thing::Object(0)) else {
-            return Reply::Refused(Refusal::Unknown);
-        };
-        self.last = thing.place();
-        let (thing, reply) = thing.poll(&mut self.objects, waker, steps);
-        names::set(&mut self.names, name, thing);
-        reply
+        match poll_name(&mut self.names, &mut self.objects, name, waker, steps) {
+            None => Reply::Refused(Refusal::Unknown),
+            Some((place, reply)) => {
+                self.last = place;
+                reply
+            }
+        }
     }
 
     /// Lets go of the request or permit that a name is.
@@ -165,15 +188,14 @@ impl Table {
         ensures follows { Follows (λ state. dropping (standing name.now state) name.now state) self.old result self.new }
         ensures sound { IsSound self.new }
     {
-        match self.names.get(name) {
-            None => return Reply::Refused(Refusal::Unknown),
-            Some(Thing::Object(_)) => return Reply::Refused(Refusal::Kind),
-            Some(_) => {}
+        if names::is_object(&self.names, name) {
+            return Reply::Refused(Refusal::Kind);
         }
-        if let Some(thing) = names::remove(&mut self.names, name) {
-            self.last = thing.place();
-            thing.drop_from(&mut self.objects, steps);
-        }
+        let Some(thing) = names::remove(&mut self.names, name) else {
+            return Reply::Refused(Refusal::Unknown);
+        };
+        self.last = thing.place();
+        thing.drop_from(&mut self.objects, steps);
         Reply::Done
     }
 
