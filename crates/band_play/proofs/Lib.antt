@@ -16,6 +16,7 @@ pub mod Permits
 pub mod Requests
 pub mod Sound
 pub mod Standing
+pub mod Statuses
 pub mod TableLemmas
 pub mod Telling
 pub mod Turns
