@@ -27,7 +27,7 @@ pub record Goes (bytes rest : List ℕ) (lines : ℕ) (state : State) (front : L
 goes_on : (bytes line after : List ℕ) (lines : ℕ) (state : State) (front : List ℕ) (call : Call) → Goes bytes (line ++ 10 ∷ after) lines state front → HasNoNewline line → call_of line ≡ Some call → Goes bytes after (lines + 1) (step call state).state (front ++ text_after call state)
 goes_on bytes line after lines state front call q none is =
     let told : (more : List ℕ) → transcript_from state (calls_of (lines_of ((line ++ 10 ∷ after) ++ more))) ≡ text_after call state ++ transcript_from (step call state).state (calls_of (lines_of (after ++ more)))
-        = λ more. rw (lines_of-more line after more none, is) refl in
+    = λ more. rw (lines_of-more line after more none, is) refl in
     record {
       outcome = λ more over. q.outcome more over ∙ (rw (lines_of-more line after more none, rest_of-more line after more none, is) refl);
       text = λ more. append_assoc front _ _ ∙ ap (λ t. front ++ t) (sym (told more)) ∙ q.text more;
@@ -81,9 +81,10 @@ going_malformed bytes rest line after lines player x y q e none is more =
     let P : List ℕ → Type 0 = λ rest. Goes bytes rest lines q.state q.front in
     let A : List ℕ → Type 0 = λ text. Adds text x y in
     let goes = subst P e q.goes in
-    let told : transcript_from q.state (calls_of (lines_of ((line ++ 10 ∷ after) ++ more))) ≡ [] = rw (lines_of-more line after more none, is) refl in
-    ( (λ over. goes.outcome more over ∙ (rw (lines_of-more line after more none, rest_of-more line after more none, is) refl))
-    , subst A (sym (append-nil q.front) ∙ ap (λ t. q.front ++ t) (sym told) ∙ goes.text more) q.added )
+    let told : transcript_from q.state (calls_of (lines_of ((line ++ 10 ∷ after) ++ more))) ≡ [] = rw (lines_of-more line after more none, is) refl in (
+      (λ over. goes.outcome more over ∙ (rw (lines_of-more line after more none, rest_of-more line after more none, is) refl)),
+      subst A (sym (append-nil q.front) ∙ ap (λ t. q.front ++ t) (sym told) ∙ goes.text more) q.added,
+    )
 
 pub going_front : (bytes rest line after : List ℕ) (lines : ℕ) (call : Call) (player : Player) (x y z : Option (List ℕ)) → Going bytes rest lines player x y → rest ≡ line ++ 10 ∷ after → HasNoNewline line → call_of line ≡ Some call → PlaysFront call player y z → WritesSome bytes x z
 going_front bytes rest line after lines call player x y z q e none is plays more =
