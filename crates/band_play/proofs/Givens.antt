@@ -1,19 +1,18 @@
 -- What playing within the limit makes of all bytes.
-use Rattle.std.proofs.Common.{◌≡◌, ℕ, ◌+◌, ◌-◌, ◌<◌, ◌≤◌, Bool, true, false, nat_lt, List, [], ◌∷◌, ◌++◌, length, take, Option, Some, None, IfSome, Result, Ok, Err, IfOk, IfErr, refl, sym, ap, subst, ◌∙◌, append-nil, length-append, arith}
+use Rattle.std.proofs.Common.{◌≡◌, ℕ, ◌+◌, ◌-◌, ◌<◌, ◌≤◌, Bool, true, false, nat_lt, List, [], ◌∷◌, ◌++◌, length, take, Option, Some, IfOk, IfErr, refl, sym, ap, subst, ◌∙◌, append-nil, length-append, arith}
 use Rattle.std.proofs.lemmas.Bool.{le-ltb, lt-ltb, ltb-true, ltb-false}
 use Rattle.std.proofs.lemmas.List.{take_all, take-append-le}
 use Rattle.std.proofs.Math.Seq.{take-append-add}
 use Rattle.std.specs.Result.{OnOk}
-use Rattle.band_base.specs.Device.{Rose, Adds, GivesFront}
+use Rattle.band_base.specs.Device.{Adds}
 use Rattle.band_play.specs.declared.fault.PlayFault.{PlayFault}
 use Rattle.band_play.specs.declared.fault.PlayFault.TheVariants as faults
 use Rattle.band_play.specs.declared.intake.End.{End}
 use Rattle.band_play.specs.declared.intake.End.TheVariants.{Ended, Over, Failed}
-use Rattle.band_play.specs.Script.{Verdict, Good, Malformed, TooLong, verdict, verdict_from, verdict_at_end, lines_of, rest_of, calls_of, transcript}
-use Rattle.band_play.specs.Play.{Comes, AllRead, AddsFront, PlaysGiven, StopsEarly, WritesFront}
+use Rattle.band_play.specs.Script.{Verdict, Good, Malformed, TooLong, verdict_from, verdict_at_end, lines_of, rest_of, calls_of, transcript}
+use Rattle.band_play.specs.Play.{Comes, AddsFront, PlaysGiven}
 use Rattle.band_play.specs.Lines.{PlaysLines, FindsMalformed, WritesSome, Stops}
-use Rattle.band_play.specs.Given.{HasSize, CanFollow, ComesOf, WritesFrontOf, Fails, answer_at_end}
-use Rattle.band_play.specs.Intake.{Ends}
+use Rattle.band_play.specs.Given.{HasSize, ComesOf, WritesFrontOf, Fails, answer_at_end}
 
 -- what is within the limit begins with what of the front is
 take_through : (limit : ℕ) (bytes more : List ℕ) → take limit (bytes ++ more) ≡ take limit bytes ++ take (limit - length bytes) more
@@ -51,11 +50,11 @@ fails_from faults.Read limit end bytes x y old new s = absurd s
 fails_from faults.Write limit end bytes x y old new s = (front_of limit end bytes x y s.0, s.1)
 fails_from faults.NoMemory limit end bytes x y old new s = front_of limit end bytes x y s
 
-pub fails_after : (raised fault : PlayFault) (limit : ℕ) (end : End) (bytes within : List ℕ) (x y : Option (List ℕ)) (old new : ℕ) → raised ≡ fault → within ≡ take limit bytes → Stops fault within x y old new → Fails raised limit end bytes x y old new
-fails_after raised fault limit end bytes within x y old new e w stops =
+pub fails_after : (raised fault : PlayFault) (limit : ℕ) (end : End) (bytes text within : List ℕ) (x y : Option (List ℕ)) (old new : ℕ) → raised ≡ fault → text ≡ bytes → within ≡ take limit text → Stops fault within x y old new → Fails raised limit end bytes x y old new
+fails_after raised fault limit end bytes text within x y old new e same w stops =
     let P : PlayFault → Type 0 = λ f. Fails f limit end bytes x y old new in
     let Q : List ℕ → Type 0 = λ b. Stops fault b x y old new in
-    subst P (sym e) (fails_from fault limit end bytes x y old new (subst Q w stops))
+    subst P (sym e) (fails_from fault limit end bytes x y old new (subst Q (w ∙ ap (λ b. take limit b) same) stops))
 
 -- once all lines within the limit are played
 comes_at_end : (outcome : Verdict) (limit lines : ℕ) (bytes rest more : List ℕ) (over : Bool) (x y : Option (List ℕ)) → PlaysLines (take limit bytes) lines rest x y → take limit (bytes ++ more) ≡ take limit bytes → nat_lt limit (length (bytes ++ more)) ≡ over → verdict_at_end lines rest over ≡ outcome → Comes outcome limit (Some (bytes ++ more)) x y

@@ -11,7 +11,7 @@ use Rattle.band_play.specs.Grammar.{call_of}
 use Rattle.band_play.specs.State.{State}
 use Rattle.band_play.specs.Step.{step}
 use Rattle.band_play.specs.Player.{StandsFor}
-use Rattle.band_play.specs.Script.{Malformed, verdict_from, lines_of, rest_of, calls_of, transcript, transcript_from}
+use Rattle.band_play.specs.Script.{verdict_from, lines_of, rest_of, calls_of, transcript, transcript_from}
 use Rattle.band_play.specs.Play.{AddsFront}
 use Rattle.band_play.specs.Lines.{HasNoNewline, text_after, Plays, PlaysFront, PlaysLines, FindsMalformed, WritesSome, Stops, fault_of}
 use Rattle.band_play.proofs.Devices.{adds_nothing, adds_more, front_after, front_of_longer, rises}

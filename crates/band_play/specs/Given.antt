@@ -5,7 +5,7 @@ use Rattle.band_play.specs.declared.fault.PlayFault.{PlayFault}
 use Rattle.band_play.specs.declared.fault.PlayFault.TheVariants as faults
 use Rattle.band_play.specs.declared.intake.End.{End}
 use Rattle.band_play.specs.declared.intake.End.TheVariants.{Ended, Over, Failed}
-use Rattle.band_play.specs.Script.{Verdict, Good, Malformed, TooLong}
+use Rattle.band_play.specs.Script.{Verdict, Malformed, TooLong}
 use Rattle.band_play.specs.Play.{Comes, PlaysGiven, WritesFront}
 
 -- how many bytes are taken, by why no more were

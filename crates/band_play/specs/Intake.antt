@@ -1,5 +1,5 @@
 -- What is taken from a source.
-use Rattle.std.specs.Prelude.{◌≡◌, ℕ, ◌+◌, ◌<◌, ◌≤◌, List, [], ◌++◌, length, Option, IfSome, Result, Ok, Err}
+use Rattle.std.specs.Prelude.{◌≡◌, ℕ, ◌+◌, ◌≤◌, List, [], ◌++◌, length, Option, IfSome, Result, Ok, Err}
 use Rattle.band_base.specs.declared.source.SourceFailed.{SourceFailed}
 use Rattle.band_base.specs.Device.{Rose, GivesFront}
 use Rattle.band_play.specs.declared.intake.End.{End}

@@ -1,5 +1,5 @@
 -- How far the lines of a script are played.
-use Rattle.std.specs.Prelude.{◌≡◌, ℕ, ◌+◌, ◌≤◌, Bool, false, List, ◌++◌, length, Option, IsSome}
+use Rattle.std.specs.Prelude.{◌≡◌, ℕ, ◌≤◌, Bool, false, List, ◌++◌, length, Option, IsSome}
 use Rattle.std.specs.List.{All, AllByRecursion}
 use Rattle.band_base.specs.Device.{Rose, Adds}
 use Rattle.band_base.specs.declared.sink.SinkError.{SinkError}
@@ -13,7 +13,7 @@ use Rattle.band_play.specs.State.{State}
 use Rattle.band_play.specs.Step.{step}
 use Rattle.band_play.specs.Text.{text_of}
 use Rattle.band_play.specs.Player.{StandsFor}
-use Rattle.band_play.specs.Script.{Verdict, Malformed, verdict_from, verdict_at_end, is_newline, lines_of, rest_of, calls_of, transcript}
+use Rattle.band_play.specs.Script.{Malformed, verdict_from, verdict_at_end, is_newline, lines_of, rest_of, calls_of, transcript}
 use Rattle.band_play.specs.Play.{AddsFront}
 
 -- no newline stands in it

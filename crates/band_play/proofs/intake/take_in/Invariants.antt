@@ -1,4 +1,4 @@
-use Rattle.std.proofs.Common.{◌+◌, ◌-◌, ◌≤◌, ℕ, length}
+use Rattle.std.proofs.Common.{◌+◌, ◌-◌, ◌≤◌, length}
 use Rattle.band_base.specs.Device.{GivesFront}
 use Rattle.band_play.proofs.intake.take_in.Given as goal
 

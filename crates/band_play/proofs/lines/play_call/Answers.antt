@@ -1,4 +1,3 @@
-use Rattle.std.proofs.Common.{◌∙◌, sym}
 use Rattle.std.proofs.lemmas.Result.{on_ok_weaker}
 use Rattle.band_play.proofs.Telling.{plays}
 use Rattle.band_play.proofs.lines.play_call.Goals as goal

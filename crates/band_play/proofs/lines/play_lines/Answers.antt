@@ -1,5 +1,5 @@
-use Rattle.std.proofs.Common.{ap, sym, arith}
-use Rattle.band_play.proofs.Goings.{going_start, going_on, going_end, going_malformed, going_front, stops_writing}
+use Rattle.std.proofs.Common.{sym, arith}
+use Rattle.band_play.proofs.Goings.{going_on, going_end, going_malformed, going_front, stops_writing}
 use Rattle.band_play.proofs.lines.play_lines.Goals as goal
 
 pub returns-in_default-parse_line-clause-stops : goal.returns-in_default-parse_line-clause-stops

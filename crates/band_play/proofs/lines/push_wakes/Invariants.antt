@@ -1,4 +1,4 @@
-use Rattle.std.proofs.Common.{◌≡◌, ◌++◌, List, ℕ, string_bytes, flat_map, length}
+use Rattle.std.proofs.Common.{◌≡◌, ◌++◌, string_bytes, flat_map, length}
 use Rattle.band_play.specs.Player.{wakers_left, Stays}
 use Rattle.band_play.specs.Text.{wake_line}
 use Rattle.band_play.proofs.lines.push_wakes.Given as goal

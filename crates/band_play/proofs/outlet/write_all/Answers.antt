@@ -1,7 +1,7 @@
 use Rattle.std.proofs.Common.{◌≡◌, ℕ, false, [], ◌∷◌, ◌-◌, ◌<◌, ◌≤◌, List, take, drop, length, length-drop, arith}
 use Rattle.std.proofs.lemmas.List.{take_rest}
 use Rattle.std.specs.Bool.{◌==◌}
-use Rattle.band_play.proofs.Devices.{nothing_yet, part_added, all_added, front_added}
+use Rattle.band_play.proofs.Devices.{nothing_yet, part_added}
 use Rattle.band_play.proofs.outlet.write_all.Goals as goal
 
 some_left : (rest : List ℕ) → false ≡ (length rest == 0) → 0 < length rest

@@ -1,4 +1,4 @@
-use Rattle.std.proofs.Common.{◌≡◌, ◌∙◌, ◌++◌, append_assoc, to_z-of_z}
+use Rattle.std.proofs.Common.{◌∙◌, append_assoc, to_z-of_z}
 use Rattle.std.proofs.lemmas.Result.{on_ok_weaker}
 use Rattle.band_play.proofs.print.push_figures.Goals as goal
 
