@@ -1,8 +1,12 @@
 pub mod Asking
 pub mod Change
+pub mod Devices
 pub mod Distinct
 pub mod Follow
+pub mod Givens
+pub mod Goings
 pub mod GrammarLemmas
+pub mod LineCuts
 pub mod LineRows
 pub mod Lists
 pub mod Making
@@ -12,7 +16,9 @@ pub mod Permits
 pub mod Requests
 pub mod Sound
 pub mod Standing
+pub mod Statuses
 pub mod TableLemmas
+pub mod Telling
 pub mod Turns
 pub mod Updates
 pub mod Waking
