@@ -2,9 +2,13 @@ pub mod Asking
 pub mod Called
 pub mod Calling
 pub mod Change
+pub mod Devices
 pub mod Distinct
 pub mod Follow
+pub mod Givens
+pub mod Goings
 pub mod GrammarLemmas
+pub mod LineCuts
 pub mod LineRows
 pub mod Lists
 pub mod Making
@@ -15,7 +19,9 @@ pub mod Permits
 pub mod Requests
 pub mod Sound
 pub mod Standing
+pub mod Statuses
 pub mod TableLemmas
+pub mod Telling
 pub mod Turns
 pub mod Updates
 pub mod Waking

@@ -1,10 +1,14 @@
+pub mod Given
 pub mod Grammar
+pub mod Intake
 pub mod Kept
 pub mod Left
+pub mod Lines
 pub mod Moves
 pub mod Name
 pub mod Names
 pub mod Number
+pub mod Play
 pub mod Player
 pub mod Script
 pub mod State

@@ -2,22 +2,32 @@
 #![tactic(auto)]
 
 mod call;
+mod fault;
 mod grammar;
+mod intake;
+mod lines;
 mod name;
 mod names;
 mod number;
+mod outlet;
 mod player;
+mod print;
+mod program;
 mod reply;
+mod script;
 mod table;
 mod text;
 mod thing;
 mod words;
 
 pub use call::Call;
+pub use fault::PlayFault;
 pub use grammar::{longest_line, one_call, parse_line};
 pub use name::Name;
 pub use player::Player;
+pub use program::run;
 pub use reply::Reply;
+pub use script::play;
 
 #[cfg(test)]
 mod tests;

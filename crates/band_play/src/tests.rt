@@ -1,6 +1,9 @@
 //! Lines with the calls that they stand for, written by hand.
 
-use crate::{Call, Name, parse_line};
+use crate::print::{push_reply, push_wake};
+use crate::{Call, Name, Reply, parse_line};
+use band_base::Waker;
+use band_sem::Refusal;
 use std::collections::BTreeMap;
 use std::process::Abort;
 use std::test::Fail;
@@ -166,5 +169,49 @@ fn finds_by_name(rt: HostRuntime) -> Result<(), Fail> {
     assert_eq!(rt; numbers.get(&name(&rt, "c")).copied(), None);
     let first = numbers.keys().next().ok_or("no name")?;
     assert_eq!(rt; first.as_str(), "0");
+    Ok(())
+}
+
+#[test]
+fn prints_each_reply(rt: HostRuntime) -> Result<(), Fail> {
+    let figures = Reply::Figures {
+        available: 0,
+        free: -2,
+        waiting: 1,
+        granted: 0,
+        held: 18446744073709551615,
+    };
+    let table = [
+        (Reply::Done, "ok\n"),
+        (Reply::Ready, "ready\n"),
+        (Reply::Pending, "pending\n"),
+        (Reply::Nothing, "none\n"),
+        (Reply::Drained(30), "drained 30\n"),
+        (
+            figures,
+            "available 0 free -2 waiting 1 granted 0 held 18446744073709551615\n",
+        ),
+        (Reply::Refused(Refusal::Unknown), "refused unknown\n"),
+        (Reply::Refused(Refusal::Kind), "refused kind\n"),
+        (Reply::Refused(Refusal::Same), "refused same\n"),
+        (Reply::Refused(Refusal::Taken), "refused taken\n"),
+        (Reply::Refused(Refusal::Finished), "refused finished\n"),
+        (Reply::Refused(Refusal::Other), "refused other\n"),
+        (Reply::Refused(Refusal::Overflow), "refused overflow\n"),
+        (Reply::Refused(Refusal::Debt), "refused debt\n"),
+    ];
+    for (reply, line) in table {
+        let mut text = String::new(rt.alloc());
+        push_reply(&mut text, &reply)?;
+        assert_eq!(rt; text.as_str(), line);
+    }
+    Ok(())
+}
+
+#[test]
+fn prints_a_wake(rt: HostRuntime) -> Result<(), Fail> {
+    let mut text = String::new(rt.alloc());
+    push_wake(&mut text, Waker(8))?;
+    assert_eq!(rt; text.as_str(), "wake 8\n");
     Ok(())
 }

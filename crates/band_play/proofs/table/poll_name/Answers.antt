@@ -1,4 +1,4 @@
-use Rattle.std.proofs.Common.{Some, subst, sym, ap, ◌∙◌, ◌≡◌, rules}
+use Rattle.std.proofs.Common.{Some, subst, ◌≡◌, rules}
 use Rattle.std.specs.BTreeMap.{Updates}
 use Rattle.std.specs.Ordering.{nat_cmp}
 use Rattle.std.specs.Cmp.Lexicographic.{slice_cmp}

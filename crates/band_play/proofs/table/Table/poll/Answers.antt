@@ -1,4 +1,4 @@
-use Rattle.std.proofs.Common.{refl, sym, ap, ◌∙◌}
+use Rattle.std.proofs.Common.{refl}
 use Rattle.band_play.proofs.TableLemmas.{poll_none, poll_done, poll_sound, same_names, sound_same}
 use Rattle.band_play.proofs.Sound.{fits_in}
 use Rattle.band_play.proofs.table.Table.poll.Goals as goal

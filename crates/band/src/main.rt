@@ -1,0 +1,29 @@
+//! The program: its words, the standard streams and a counter, given to `run`.
+#![tactic(auto)]
+
+ghost use Rattle.std.specs.Prelude.{◌≡◌, ◌<◌};
+
+use band_base::{StdErr, StdIn, StdOut, Steps};
+use std::marker::Brand;
+use std::process::ExitCode;
+use std::sync::ledger::{Blank, Ledger};
+use std::{env, io};
+
+fn main(rt: HostRuntime) -> io::Result<ExitCode> {
+    let words: Vec<String> = env::args(&rt)?.skip(1).collect(rt.alloc())?;
+    let status = run_counted::<Brand>(&rt, &words, Blank::new(1));
+    Ok(ExitCode::from(status))
+}
+
+/// Runs over the standard streams, with a counter of the ledger that `blank` opens.
+fn run_counted<L: Ledger>(rt: &HostRuntime, words: &[String], blank: Blank) -> u8
+    requires name { blank.name ≡ L.name }
+    requires parts { blank.parts ≡ L.parts }
+    requires some { 0 < blank.parts }
+{
+    let mut src = StdIn::new(rt.stdin());
+    let mut dst = StdOut::new(rt.stdout());
+    let mut err = StdErr::new(rt.stderr());
+    let mut steps = Steps::<L>::new(blank);
+    band_play::run(rt.alloc(), words, &mut src, &mut dst, &mut err, &mut steps)
+}

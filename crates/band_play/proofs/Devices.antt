@@ -1,0 +1,81 @@
+-- What is added or taken in two steps.
+use Rattle.std.proofs.Common.{◌≡◌, ℕ, ◌≤◌, List, [], ◌++◌, take, drop, Option, Some, None, refl, sym, ◌∙◌, ap, subst, append_assoc, append-nil, length, ◌-◌, ◌≤◌, arith}
+use Rattle.std.proofs.lemmas.List.{take-append-drop, take_rest}
+use Rattle.band_base.specs.Device.{Rose, Adds, GivesFront}
+use Rattle.band_play.specs.Play.{AddsFront}
+
+pub adds_nothing : (at : Option (List ℕ)) → Adds [] at at
+adds_nothing None = tt
+adds_nothing (Some bytes) = sym (append-nil bytes)
+
+pub adds_more : (a b : List ℕ) (x y z : Option (List ℕ)) → Adds a x y → Adds b y z → Adds (a ++ b) x z
+adds_more a b None None None p q = tt
+adds_more a b None None (Some z) p q = absurd q
+adds_more a b None (Some y) z p q = absurd p
+adds_more a b (Some x) None z p q = absurd p
+adds_more a b (Some x) (Some y) None p q = absurd q
+adds_more a b (Some x) (Some y) (Some z) p q = rw (q, p) (append_assoc x a b)
+
+pub gives_nothing : (at : Option (List ℕ)) → GivesFront [] at at
+gives_nothing None = tt
+gives_nothing (Some bytes) = refl
+
+pub gives_more : (a b : List ℕ) (x y z : Option (List ℕ)) → GivesFront a x y → GivesFront b y z → GivesFront (a ++ b) x z
+gives_more a b None None None p q = tt
+gives_more a b None None (Some z) p q = absurd q
+gives_more a b None (Some y) z p q = absurd p
+gives_more a b (Some x) None z p q = absurd p
+gives_more a b (Some x) (Some y) None p q = absurd q
+gives_more a b (Some x) (Some y) (Some z) p q = rw (p, q) (sym (append_assoc a b z))
+
+-- a front of what comes after a text is one of the whole
+pub front_after : (a b : List ℕ) (x y z : Option (List ℕ)) → Adds a x y → AddsFront b y z → AddsFront (a ++ b) x z
+front_after a b x y z p q = record {
+  front = a ++ q.front;
+  rest = q.rest;
+  whole = rw (append_assoc, q.whole) refl;
+  added = adds_more a q.front x y z p q.added;
+}
+
+-- nothing is a front of each text
+pub no_front : (a : List ℕ) (at : Option (List ℕ)) → AddsFront a at at
+no_front a at = record { front = []; rest = a; whole = refl; added = adds_nothing at }
+
+-- a front of a front is one of the longer text
+pub front_of_longer : (a b : List ℕ) (x y : Option (List ℕ)) → AddsFront a x y → AddsFront (a ++ b) x y
+front_of_longer a b x y q = record {
+  front = q.front;
+  rest = q.rest ++ b;
+  whole = rw (← append_assoc, q.whole) refl;
+  added = q.added;
+}
+
+-- of a text, what is before this rest was added
+pub record AddsUpTo (text rest : List ℕ) (before after : Option (List ℕ)) : Type 0 where
+  pub front : List ℕ
+  pub whole : front ++ rest ≡ text
+  pub added : Adds front before after
+
+pub nothing_yet : (text : List ℕ) (at : Option (List ℕ)) → AddsUpTo text text at at
+nothing_yet text at = record { front = []; whole = refl; added = adds_nothing at }
+
+pub all_added : (text rest : List ℕ) (x y : Option (List ℕ)) → rest ≡ [] → AddsUpTo text rest x y → Adds text x y
+all_added text rest x y e q =
+    let whole : q.front ≡ text = sym (append-nil q.front) ∙ ap (λ r. q.front ++ r) (sym e) ∙ q.whole in
+    let P : List ℕ → Type 0 = λ a. Adds a x y in
+    subst P whole q.added
+
+pub front_added : (text rest : List ℕ) (x y : Option (List ℕ)) → AddsUpTo text rest x y → AddsFront text x y
+front_added text rest x y q = record { front = q.front; rest = rest; whole = q.whole; added = q.added }
+
+-- after a part of the rest
+pub part_added : (text rest : List ℕ) (n : ℕ) (x y z : Option (List ℕ)) → AddsUpTo text rest x y → Adds (take n rest) y z → AddsUpTo text (take (length rest - n) (drop n rest)) x z
+part_added text rest n x y z q p = record {
+  front = q.front ++ take n rest;
+  whole = rw (take_rest, append_assoc, take-append-drop, q.whole) refl;
+  added = adds_more q.front (take n rest) x y z q.added p;
+}
+
+-- a count that rose after it had not fallen
+pub rises : (start old new : ℕ) → start ≤ old → Rose old new → Rose start new
+rises start old new kept rose = omega arith

@@ -1,0 +1,13 @@
+use Rattle.std.proofs.Common.{◌≡◌, ◌++◌, string_bytes, flat_map, length}
+use Rattle.band_play.specs.Player.{wakers_left, Stays}
+use Rattle.band_play.specs.Text.{wake_line}
+use Rattle.band_play.proofs.lines.push_wakes.Given as goal
+
+abbrev pub invariant-loop-waker : goal.invariant-loop-waker
+invariant-loop-waker l = record {
+  text : string_bytes l.text ++ flat_map wake_line (wakers_left l.player) ≡ string_bytes l.initial.text ++ flat_map wake_line (wakers_left l.initial.player);
+  state : Stays l.initial.player l.player;
+}
+
+abbrev pub decreases-loop-waker : goal.decreases-loop-waker
+decreases-loop-waker l = length (wakers_left l.player)

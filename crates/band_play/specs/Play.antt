@@ -1,0 +1,56 @@
+-- What playing a script promises, answer by answer.
+use Rattle.std.specs.Prelude.{◌≡◌, ℕ, ◌≤◌, ◌⊎◌, List, [], ◌++◌, length, Option, Some, None, IsSome, Result, Ok, Err}
+use Rattle.std.specs.List.{AllByRecursion}
+use Rattle.band_base.specs.Device.{Adds}
+use Rattle.band_play.specs.declared.fault.PlayFault.{PlayFault}
+use Rattle.band_play.specs.declared.fault.PlayFault.TheVariants as faults
+use Rattle.band_play.specs.Grammar.{call_of}
+use Rattle.band_play.specs.Script.{Verdict, verdict, lines_of, calls_of, calls_within, transcript}
+
+-- a front of this text was added at the end of what was written, where that is told
+pub record AddsFront (text : List ℕ) (before after : Option (List ℕ)) : Type 0 where
+  pub front : List ℕ
+  pub rest : List ℕ
+  pub whole : front ++ rest ≡ text
+  pub added : Adds front before after
+
+-- where the source told its bytes: this is their outcome, and exactly the transcript of their calls was written
+abbrev pub Comes : Verdict → ℕ → Option (List ℕ) → Option (List ℕ) → Option (List ℕ) → Type 0
+Comes outcome limit None before after = Unit {0}
+Comes outcome limit (Some bytes) before after =
+    (verdict limit bytes ≡ outcome) × Adds (transcript (calls_within limit bytes)) before after
+
+-- where the source told its bytes: none is left
+abbrev pub AllRead : Option (List ℕ) → Option (List ℕ) → Type 0
+AllRead None left = Unit {0}
+AllRead (Some bytes) left = left ≡ Some []
+
+-- these bytes were given within the limit, each of their ended lines stands for a call, and exactly the transcript of those was written
+pub record PlaysGiven (limit : ℕ) (given : List ℕ) (before after : Option (List ℕ)) : Type 0 where
+  pub within : length given ≤ limit
+  pub each : AllByRecursion (λ line. IsSome (call_of line)) (lines_of given)
+  pub added : Adds (transcript (calls_of (lines_of given))) before after
+
+-- where the source told its bytes: it failed after it gave some, and those were played
+abbrev pub StopsEarly : ℕ → Option (List ℕ) → Option (List ℕ) → Option (List ℕ) → Option (List ℕ) → Type 0
+StopsEarly limit None left before after = Unit {0}
+StopsEarly limit (Some bytes) None before after = ⊥
+StopsEarly limit (Some bytes) (Some left) before after =
+    (given : List ℕ) × (bytes ≡ given ++ left) × PlaysGiven limit given before after
+
+-- where the source told its bytes: what was written is a front of the transcript
+abbrev pub WritesFront : ℕ → Option (List ℕ) → Option (List ℕ) → Option (List ℕ) → Type 0
+WritesFront limit None before after = Unit {0}
+WritesFront limit (Some bytes) before after = AddsFront (transcript (calls_within limit bytes)) before after
+
+-- the exit statuses of the program
+abbrev pub IsStatus : ℕ → Type 0
+IsStatus status = (status ≡ 0) ⊎ ((2 ≤ status) × (status ≤ 7))
+
+abbrev pub status_of : Result ℕ PlayFault → ℕ
+status_of (Ok lines) = 0
+status_of (Err (faults.Malformed line)) = 3
+status_of (Err faults.TooLong) = 4
+status_of (Err faults.Read) = 5
+status_of (Err faults.Write) = 6
+status_of (Err faults.NoMemory) = 7

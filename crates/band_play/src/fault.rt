@@ -1,0 +1,35 @@
+//! Why a script was not played to its end.
+
+use std::alloc::AllocError;
+use thiserror::Error;
+
+/// Why a script was not played to its end.
+#[derive(Debug, Drop, Error)]
+pub enum PlayFault {
+    /// The line of this number, counted from 1, stands for no call, or isn't ended.
+    #[error("malformed line {0}")]
+    Malformed(u64),
+    /// The script has more bytes than the limit.
+    #[error("too long")]
+    TooLong,
+    /// The source failed.
+    #[error("read fault")]
+    Read,
+    /// The sink failed.
+    #[error("write fault")]
+    Write,
+    /// There was no memory.
+    #[error("no memory")]
+    NoMemory,
+}
+
+impl From<AllocError> for PlayFault {
+    ghost use Rattle.std.specs.Prelude.{◌≡◌};
+    ghost use Rattle.band_play.specs.declared.fault.PlayFault.TheVariants.{NoMemory};
+
+    ghost from_gives = { λ _ fault. fault ≡ NoMemory };
+
+    fn from(_error: AllocError) -> PlayFault {
+        PlayFault::NoMemory
+    }
+}

@@ -1,0 +1,68 @@
+//! The lines of a transcript.
+ghost use Rattle.std.specs.Prelude.{◌≡◌, [], ◌∷◌, ◌++◌, OnOk, string_bytes};
+ghost use Rattle.band_play.specs.Text.{refusal_word, reply_text, wake_line};
+
+use crate::Reply;
+use band_base::Waker;
+use band_sem::Refusal;
+use std::alloc::AllocError;
+use std::fmt::Write;
+
+/// Adds the line of a reply.
+pub(crate) fn push_reply(out: &mut String, reply: &Reply) -> Result<(), AllocError>
+    ensures { OnOk result (string_bytes out.new ≡ string_bytes out.old ++ (reply_text reply.now ++ 10 ∷ [])) }
+{
+    match reply {
+        Reply::Done => out.push_str("ok\n"),
+        Reply::Ready => out.push_str("ready\n"),
+        Reply::Pending => out.push_str("pending\n"),
+        Reply::Nothing => out.push_str("none\n"),
+        Reply::Drained(count) => writeln!(out, "drained {count}"),
+        Reply::Figures {
+            available,
+            free,
+            waiting,
+            granted,
+            held,
+        } => push_figures(out, *available, *free, *waiting, *granted, *held),
+        Reply::Refused(refusal) => writeln!(out, "refused {}", word_of(*refusal)),
+    }
+}
+
+fn push_figures(
+    out: &mut String,
+    available: u64,
+    free: i128,
+    waiting: u64,
+    granted: u64,
+    held: u64,
+) -> Result<(), AllocError>
+    ensures { OnOk result (string_bytes out.new ≡ string_bytes out.old ++ (reply_text (Reply.Figures available free waiting granted held) ++ 10 ∷ [])) }
+{
+    writeln!(
+        out,
+        "available {available} free {free} waiting {waiting} granted {granted} held {held}"
+    )
+}
+
+/// Adds the line of a waker woken.
+pub(crate) fn push_wake(out: &mut String, waker: Waker) -> Result<(), AllocError>
+    ensures { OnOk result (string_bytes out.new ≡ string_bytes out.old ++ wake_line waker.0) }
+{
+    writeln!(out, "wake {}", waker.0)
+}
+
+fn word_of(refusal: Refusal) -> &'static str
+    ensures { result.now ≡ refusal_word refusal }
+{
+    match refusal {
+        Refusal::Unknown => "unknown",
+        Refusal::Kind => "kind",
+        Refusal::Same => "same",
+        Refusal::Taken => "taken",
+        Refusal::Finished => "finished",
+        Refusal::Other => "other",
+        Refusal::Overflow => "overflow",
+        Refusal::Debt => "debt",
+    }
+}

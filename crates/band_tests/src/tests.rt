@@ -1,0 +1,158 @@
+//! Scripts, and what they come to.
+ghost use Rattle.std.specs.Prelude.{◌≡◌, ◌<◌};
+
+use crate::devices::{Drips, Sips};
+use band_base::{BytesIn, BytesOut, Sink, Source, Steps};
+use band_play::{Call, Name, PlayFault, Player, Reply, play, run};
+use std::alloc::{AllocError, Global};
+use std::marker::Brand;
+use std::sync::ledger::{Blank, Ledger};
+use std::test::Fail;
+
+const STORED: &str = "sem s 1\nask a s 2 7\nask b s 1 8\ndrop a\npoll b 9\n";
+
+const STORED_OUT: &str = "ok\npending\npending\nok\nwake 8\nready\n";
+
+const REFUSED: &str = "sem s 1\nsem s 1\nask s s 1 1\npoll x 1\ndrop s\nask a s 0 1\npoll a 1\n";
+
+const REFUSED_OUT: &str =
+    "ok\nrefused taken\nrefused taken\nrefused unknown\nrefused kind\nready\nrefused finished\n";
+
+fn play_counted<S: Source, D: Sink, L: Ledger>(
+    alloc: Global,
+    src: &mut S,
+    dst: &mut D,
+    limit: u64,
+    blank: Blank,
+) -> Result<u64, PlayFault>
+    requires limit { limit < u64.MAX }
+    requires name { blank.name ≡ L.name }
+    requires parts { blank.parts ≡ L.parts }
+    requires some { 0 < blank.parts }
+{
+    play(alloc, src, dst, limit, &mut Steps::<L>::new(blank))
+}
+
+fn play_on<S: Source, D: Sink>(
+    alloc: Global,
+    src: &mut S,
+    dst: &mut D,
+    limit: u64,
+) -> Result<String, AllocError>
+    requires { limit < u64.MAX }
+{
+    match play_counted::<S, D, Brand>(alloc, src, dst, limit, Blank::new(1)) {
+        Ok(lines) => format!(in alloc; "{lines} lines"),
+        Err(fault) => fault.to_string(alloc),
+    }
+}
+
+fn run_counted<L: Ledger>(
+    alloc: Global,
+    words: &[String],
+    src: &mut BytesIn,
+    dst: &mut BytesOut,
+    blank: Blank,
+) -> u8
+    requires name { blank.name ≡ L.name }
+    requires parts { blank.parts ≡ L.parts }
+    requires some { 0 < blank.parts }
+{
+    let mut err = BytesOut::new(alloc);
+    let mut steps = Steps::<L>::new(blank);
+    run(alloc, words, src, dst, &mut err, &mut steps)
+}
+
+fn run_on(alloc: Global, words: &[String], src: &mut BytesIn, dst: &mut BytesOut) -> u8 {
+    run_counted::<Brand>(alloc, words, src, dst, Blank::new(1))
+}
+
+#[test]
+fn plays_scripts(rt: HostRuntime) -> Result<(), Fail> {
+    let table = [
+        ("", 100, "0 lines", ""),
+        (REFUSED, 100, "7 lines", REFUSED_OUT),
+        (STORED, 100, "5 lines", STORED_OUT),
+        ("sem s 1\n\n", 100, "malformed line 2", "ok\n"),
+        ("sem s 01\n", 100, "malformed line 1", ""),
+        ("sem s 1", 100, "malformed line 1", ""),
+        ("sem s 1\nsem t 1\n", 8, "too long", "ok\n"),
+        ("sem s 1\nsem t 1\n", 16, "2 lines", "ok\nok\n"),
+    ];
+    for (script, limit, outcome, written) in table {
+        let mut dst = BytesOut::new(rt.alloc());
+        let said = play_on(
+            rt.alloc(),
+            &mut BytesIn::new(script.as_bytes()),
+            &mut dst,
+            limit,
+        )?;
+        assert_eq!(rt; said.as_str(), outcome);
+        assert_eq!(rt; dst.bytes(), written.as_bytes());
+    }
+    Ok(())
+}
+
+#[test]
+fn answers_a_status(rt: HostRuntime) -> Result<(), Fail> {
+    let words = vec![in rt.alloc(); String::from_str(rt.alloc(), "play")?]?;
+    let table = [
+        ("", 0, ""),
+        (STORED, 0, STORED_OUT),
+        ("sem s 1\n\n", 3, "ok\n"),
+        ("sem s 1", 3, ""),
+    ];
+    for (script, status, written) in table {
+        let mut dst = BytesOut::new(rt.alloc());
+        let mut src = BytesIn::new(script.as_bytes());
+        assert_eq!(rt; run_on(rt.alloc(), &words, &mut src, &mut dst), status);
+        assert_eq!(rt; dst.bytes(), written.as_bytes());
+    }
+    Ok(())
+}
+
+#[test]
+fn refuses_other_words(rt: HostRuntime) -> Result<(), Fail> {
+    for text in ["", "play play", "bulk 5"] {
+        let mut words = Vec::new(rt.alloc());
+        for word in text.split_whitespace() {
+            words.push(String::from_str(rt.alloc(), word)?)?;
+        }
+        let mut dst = BytesOut::new(rt.alloc());
+        let mut src = BytesIn::new(STORED.as_bytes());
+        assert_eq!(rt; run_on(rt.alloc(), &words, &mut src, &mut dst), 2);
+        assert_eq!(rt; dst.bytes().len(), 0);
+        assert_eq!(rt; src.read(&mut [0; 100])?, STORED.len());
+    }
+    Ok(())
+}
+
+#[test]
+fn plays_in_small_pieces(rt: HostRuntime) -> Result<(), Fail> {
+    let mut src = Drips(BytesIn::new(STORED.as_bytes()));
+    let mut dst = Sips(BytesOut::new(rt.alloc()));
+    let said = play_on(rt.alloc(), &mut src, &mut dst, 100)?;
+    assert_eq!(rt; said.as_str(), "5 lines");
+    assert_eq!(rt; dst.0.bytes(), STORED_OUT.as_bytes());
+    Ok(())
+}
+
+fn one_step<L: Ledger>(alloc: Global, call: &Call, blank: Blank) -> Result<bool, AllocError>
+    requires name { blank.name ≡ L.name }
+    requires parts { blank.parts ≡ L.parts }
+    requires some { 0 < blank.parts }
+{
+    let mut steps = Steps::<L>::new(blank);
+    let mut player = Player::new(alloc);
+    let reply = player.step(call, &mut steps)?;
+    let woken = player.take_wake();
+    Ok(matches!(reply, Reply::Done) && woken.is_none())
+}
+
+#[test]
+fn steps_once(rt: HostRuntime) -> Result<(), Fail> {
+    let made = Name::from_word(b"s").ok_or("no name")?;
+    let call = Call::Sem { made, n: 1 };
+    assert!(rt; one_step::<Brand>(rt.alloc(), &call, Blank::new(1))?);
+    Ok(())
+}
