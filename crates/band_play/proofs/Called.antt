@@ -1,5 +1,6 @@
 -- What a call of an object by its name comes to in the player's table, from what its semaphore did.
 use Rattle.std.proofs.Common.{◌≡◌, ℕ, ◌+◌, Bool, false, true, zero, suc, List, [], ◌∷◌, Option, Some, None, Err, Ok, Result, refl, sym, ap, ◌∙◌, subst}
+use Rattle.std.specs.Prelude.{ℤ}
 use Rattle.std.specs.List.{slice_get, slice_set}
 use Rattle.std.proofs.lemmas.Bool.{false≢true}
 use Rattle.std.proofs.lemmas.Option.{same_Some, none-some}
@@ -108,3 +109,6 @@ ok_no_err (Err x) t e is h = cc
 -- a release is refused for one reason
 pub only_overflow : (error : ReleaseError) → error ≡ Overflow
 only_overflow Overflow = refl
+
+pub same_figures : (a a' : ℕ) (f f' : ℤ) (w w' g g' h h' : ℕ) → a ≡ a' → f ≡ f' → w ≡ w' → g ≡ g' → h ≡ h' → replies.Figures a f w g h ≡ replies.Figures a' f' w' g' h'
+same_figures a a' f f' w w' g g' h h' e1 e2 e3 e4 e5 = cc
