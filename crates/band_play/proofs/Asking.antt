@@ -93,6 +93,37 @@ module _ (names : ℕ → ℕ → Tag) (table table' : List ℕ → Option Thing
       ∙ ap (λ (o : Option (Entry Tag)). option_or o (entry_named (is_tag name) (record { name = permit_tag made; size = size } ∷ []))) found
 
   -- it is served
+  -- a new permit is held, and the line becomes another with the same requests
+  module _ (after : Line ℕ) (after_named : Line Tag) (renamed : after_named ≡ rename (names place) after) (same_requests : requests after ≡ requests sem.line)
+      (update : Updated table table' made (Some (things.Permit (record { of = place; count = n })))) (lawful : IsLawful after (sem.held + n)) where
+    abbrev holding_sem : SemaphoreState
+    holding_sem = record sem { line = after; held = sem.held + n }
+
+    abbrev holding_object : Object Tag
+    holding_object = record named.object { line = after_named; held = hold (permit_tag made) n named.object.held }
+
+    table_stays : (name : List ℕ) (thing : Thing) → table name ≡ Some thing → table' name ≡ Some thing
+    table_stays name thing is = stays update name thing (λ e. none-some thing (sym absent ∙ e)) is
+
+    pub holding_turn : (answer : Answer) → TurnsTo names table' sems state place holding_sem named answer (turn answer holding_object)
+    holding_turn answer =
+        turns_to names names table table' made _ sems state place sem holding_sem named holding_object stands update at_sem at_named other_names nowhere not_object
+          renamed refl refl
+          (total-append named.object.held (record { name = permit_tag made; size = n } ∷ []) ∙ ap₂ (λ a b. a + b) here.held (zero-add n))
+          lawful
+          (rw same_requests (all_weaker _ _ (λ (e : Entry ℕ) is. table_stays (names place e.name).name (request_at place e) is) (requests sem.line) here.each_request))
+          (all_of_both _ named.object.held (record { name = permit_tag made; size = n } ∷ [])
+            (all_weaker _ _ (λ (e : Entry Tag) is. table_stays e.name.name (permit_at place e) is) named.object.held here.each_held)
+            (update.here made (bytes_same made made refl), tt))
+          (once_push (λ (a b : Tag). bytes_eq a.name b.name) named.object.held (record { name = permit_tag made; size = n }) here.held_once held_apart)
+          (record {
+            name = refl;
+            request = λ name slot e other found called. (ap (entry_named (is_slot slot)) same_requests ∙ found, called);
+            permit = λ name e other found. found_before n name e named.object.held found;
+          })
+          (with_object named (quieted holding_object), at_set_same state place named (with_object named (quieted holding_object)) at_named, found_last n named.object.held held_apart)
+          answer
+
   module _ (served : is_served n sem.line ≡ true) (update : Updated table table' made (Some (things.Permit (record { of = place; count = n }))))
       (lawful : IsLawful (take_permits n sem.line) (sem.held + n)) where
     abbrev pub served_sem : SemaphoreState
@@ -101,27 +132,8 @@ module _ (names : ℕ → ℕ → Tag) (table table' : List ℕ → Option Thing
     abbrev served_object : Object Tag
     served_object = record named.object { line = take_permits n named.object.line; held = hold (permit_tag made) n named.object.held }
 
-    table_stays : (name : List ℕ) (thing : Thing) → table name ≡ Some thing → table' name ≡ Some thing
-    table_stays name thing is = stays update name thing (λ e. none-some thing (sym absent ∙ e)) is
-
-    pub served_turn : (answer : Answer) → TurnsTo names table' sems state place served_sem named answer (turn answer served_object)
-    served_turn answer =
-        turns_to names names table table' made _ sems state place sem served_sem named served_object stands update at_sem at_named other_names nowhere not_object
-          (ap (take_permits n) line_before) refl refl
-          (total-append named.object.held (record { name = permit_tag made; size = n } ∷ []) ∙ ap₂ (λ a b. a + b) here.held (zero-add n))
-          lawful
-          (all_weaker _ _ (λ (e : Entry ℕ) is. table_stays (names place e.name).name (request_at place e) is) (requests sem.line) here.each_request)
-          (all_of_both _ named.object.held (record { name = permit_tag made; size = n } ∷ [])
-            (all_weaker _ _ (λ (e : Entry Tag) is. table_stays e.name.name (permit_at place e) is) named.object.held here.each_held)
-            (update.here made (bytes_same made made refl), tt))
-          (once_push (λ (a b : Tag). bytes_eq a.name b.name) named.object.held (record { name = permit_tag made; size = n }) here.held_once held_apart)
-          (record {
-            name = refl;
-            request = λ name slot e other found called. (found, called);
-            permit = λ name e other found. found_before n name e named.object.held found;
-          })
-          (with_object named (quieted served_object), at_set_same state place named (with_object named (quieted served_object)) at_named, found_last n named.object.held held_apart)
-          answer
+    served_turn : (answer : Answer) → TurnsTo names table' sems state place served_sem named answer (turn answer served_object)
+    served_turn answer = holding_turn (take_permits n sem.line) (take_permits n named.object.line) (ap (take_permits n) line_before) refl update lawful answer
 
     pub asked_served : TurnsTo names table' sems state place served_sem named Ready (ask (permit_tag made) n waker named.object)
     asked_served =

@@ -17,6 +17,7 @@ pub mod NumberLemmas
 pub mod Numbers
 pub mod Permits
 pub mod Requests
+pub mod Resized
 pub mod Sound
 pub mod Standing
 pub mod Statuses
