@@ -15,7 +15,9 @@ pub mod Making
 pub mod NameLemmas
 pub mod NumberLemmas
 pub mod Numbers
+pub mod Parts
 pub mod Permits
+pub mod Permitting
 pub mod Requests
 pub mod Resized
 pub mod Sound

@@ -26,7 +26,7 @@ module _ (names : ℕ → ℕ → Tag) (table : List ℕ → Option Thing) (sems
   here : StandsAt table (names place) place sem named
   here = stands.each place sem named at_sem at_named
 
-  line_before : named.object.line ≡ rename (names place) sem.line
+  pub line_before : named.object.line ≡ rename (names place) sem.line
   line_before = here.line ∙ ap (rename (names place)) (quiet_line sem.line no_wakes)
 
   module _ (object : Object Tag) (line_is : object.line ≡ rename (names place) sem'.line) (kind_is : object.kind ≡ named.object.kind) (held_is : object.held ≡ named.object.held)

@@ -90,6 +90,13 @@ object_of (Some (things.Object place)) = Ok place
 object_of (Some (things.Request place request)) = Err Kind
 object_of (Some (things.Permit permit)) = Err Kind
 
+-- the permit that a thing is, or why it is none
+abbrev pub permit_of : Option Thing → Result Permit Refusal
+permit_of None = Err Unknown
+permit_of (Some (things.Object place)) = Err Kind
+permit_of (Some (things.Request place request)) = Err Kind
+permit_of (Some (things.Permit permit)) = Ok permit
+
 -- the place of the object that a thing is, or is of
 abbrev pub place_at : Thing → ℕ
 place_at (things.Object place) = place

@@ -55,6 +55,7 @@ impl Player {
             Call::Reduce { of, n } => self.table.reduce(of, *n, steps),
             Call::Drain { of, n } => Ok(self.table.drain(of, *n)),
             Call::Status { name } => Ok(self.table.status(name)),
+            Call::Forget { name } => Ok(self.table.forget(name)),
             _ => Ok(Reply::Refused(band_sem::Refusal::Unknown)),
         }
     }

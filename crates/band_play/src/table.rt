@@ -1,20 +1,20 @@
 //! What the player keeps: the names, and the objects by place.
-ghost use Rattle.std.specs.Prelude.{◌≡◌, [], OnOk, IfOk, OnErr, IfNone, IfSome, MatchOption, ◌∷◌, ◌<◌, length, None, Some};
+ghost use Rattle.std.specs.Prelude.{◌≡◌, [], OnOk, IfOk, OnErr, IfNone, IfSome, MatchOption, MatchResult, ◌∷◌, ◌<◌, length, None, Some, Ok, Err};
 ghost use Rattle.band_balance.specs.Object.{new_semaphore};
 ghost use Rattle.band_sem.specs.declared.acquire.Stage.{Stage};
-ghost use Rattle.band_play.specs.Step.{making, asking, polling, dropping, trying, releasing, reducing, draining, showing};
+ghost use Rattle.band_play.specs.Step.{making, asking, polling, dropping, trying, releasing, reducing, draining, showing, forgetting};
 ghost use Rattle.band_play.specs.State.{standing};
 ghost use Rattle.band_play.specs.Names.{thing_at};
 ghost use Rattle.std.specs.BTreeMap.{IsUnchanged};
 ghost use Rattle.band_play.specs.declared.thing.Thing.{Thing as AnyThing};
-ghost use Rattle.band_play.specs.Moves.{PollsRequest, PollsName, IsFit, IsNumbered, object_of};
+ghost use Rattle.band_play.specs.Moves.{PollsRequest, PollsName, IsFit, IsNumbered, object_of, permit_of};
 ghost use Rattle.band_play.specs.Kept.{StandsFor, IsSound, Follows, Stays, Remains, wakes_left};
 
 use crate::names::{self, Names};
 use crate::thing::Thing;
 use crate::{Name, Reply};
 use band_base::{Poll, Steps, Waker};
-use band_sem::{ReduceError, Refusal, Semaphore};
+use band_sem::{ReduceError, Refusal, Semaphore, SemaphorePermit};
 use std::alloc::{AllocError, Global};
 use std::collections::BTreeMap;
 use std::mem;
@@ -34,6 +34,19 @@ fn object_at(names: &Names, name: &Name) -> Result<u64, Refusal>
     match names.get(name) {
         None => Err(Refusal::Unknown),
         Some(Thing::Object(place)) => Ok(*place),
+        Some(_) => Err(Refusal::Kind),
+    }
+}
+
+/// The permit with this name.
+fn permit_at<'a>(names: &'a Names, name: &Name) -> Result<&'a SemaphorePermit, Refusal>
+    ensures { MatchResult result
+        (λ permit. permit_of (thing_at names.now name.now) ≡ Ok permit.now)
+        (λ refusal. permit_of (thing_at names.now name.now) ≡ Err refusal) }
+{
+    match names.get(name) {
+        None => Err(Refusal::Unknown),
+        Some(Thing::Permit(permit)) => Ok(permit),
         Some(_) => Err(Refusal::Kind),
     }
 }
@@ -308,6 +321,24 @@ impl Table {
             granted: semaphore.granted_permits(),
             held: semaphore.held_permits(),
         }
+    }
+
+    /// Ends the permit that a name is, and nothing comes back.
+    pub(crate) fn forget(&mut self, name: &Name) -> Reply
+        requires sound { IsSound self.old }
+        requires quiet { wakes_left self.old ≡ [] }
+        ensures follows { Follows (λ state. forgetting (standing name.now state) name.now state) self.old result self.new }
+        ensures sound { IsSound self.new }
+    {
+        if let Err(refusal) = permit_at(&self.names, name) {
+            return Reply::Refused(refusal);
+        }
+        let permit = names::remove(&mut self.names, name).unwrap().into_permit();
+        let place = permit.of();
+        self.last = place;
+        let semaphore = &mut self.objects[place as usize];
+        semaphore.forget(permit);
+        Reply::Done
     }
 
     /// Takes the oldest waker to wake of the object that was called last.

@@ -1,6 +1,6 @@
 //! What a name stands for in the player's table.
-ghost use Rattle.std.specs.Prelude.{◌≡◌, ◌<◌, length};
-ghost use Rattle.band_play.specs.Moves.{IsFit, PollsThing, DropsThing, place_at};
+ghost use Rattle.std.specs.Prelude.{◌≡◌, ◌<◌, length, IsOk, Some, Ok};
+ghost use Rattle.band_play.specs.Moves.{IsFit, PollsThing, DropsThing, place_at, permit_of};
 
 use crate::Reply;
 use band_base::{Poll, Steps, Waker};
@@ -72,6 +72,17 @@ impl Thing {
             Thing::Object(place) => *place,
             Thing::Request { of, request: _ } => *of,
             Thing::Permit(permit) => permit.of(),
+        }
+    }
+
+    /// The permit that this is.
+    pub(crate) fn into_permit(self) -> SemaphorePermit
+        requires { IsOk (permit_of (Some self)) }
+        ensures { permit_of (Some self) ≡ Ok result }
+    {
+        match self {
+            Thing::Permit(permit) => permit,
+            _ => unreachable!(),
         }
     }
 

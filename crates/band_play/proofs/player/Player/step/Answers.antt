@@ -26,3 +26,6 @@ returns-in-Drain-clause-follows g c = rw c.in-Drain.is c.drain.ensures.follows
 
 pub returns-in-Status-clause-follows : goal.returns-in-Status-clause-follows
 returns-in-Status-clause-follows g c = rw c.in-Status.is c.status.ensures
+
+pub returns-in-Forget-clause-follows : goal.returns-in-Forget-clause-follows
+returns-in-Forget-clause-follows g c = rw c.in-Forget.is c.forget.ensures.follows
