@@ -56,7 +56,6 @@ impl Player {
             Call::Drain { of, n } => Ok(self.table.drain(of, *n)),
             Call::Status { name } => Ok(self.table.status(name)),
             Call::Forget { name } => Ok(self.table.forget(name)),
-            _ => Ok(Reply::Refused(band_sem::Refusal::Unknown)),
         }
     }
 
