@@ -1,22 +1,19 @@
 -- The calls keep the order of the line, and who leaves it changes nothing for the others.
 use Rattle.std.proofs.Common.{◌≡◌, refl, ℕ, ◌+◌, ◌≤◌, Bool, true, false, cond, List, [], ◌∷◌, ◌++◌, map, pos, ◌+ℤ◌, Option, Some, None, Result, Ok, Err, inl, inr, nat_eq, arith, ap, sym, ◌∙◌, append-nil}
-use Rattle.std.specs.Prelude.{ℤ}
 use Rattle.std.specs.Bool.{OnTrue}
 use Rattle.std.specs.List.{IsDistinct}
 use Rattle.band_balance.specs.Line.{Entry, Waiting, Line, entry_of, requests, total, take_permits, give_back, join, entry_named, without, without_waiting, poll_granted, poll_waiting, settle, withdraw, cancel}
-use Rattle.band_balance.proofs.Settle.{passed, left, passed-left, le_false_from_lt, granted-settle, waiting-settle, wakes-settle, free-total-cancel}
-use Rattle.band_balance.proofs.Requests.{count_named, count_named-append, count_named-none, entry_named-none, requests-give_back, requests-join, requests-poll_granted, requests-poll_waiting, requests-cancel}
+use Rattle.band_balance.proofs.Settle.{passed, passed-left, le_false_from_lt, granted-settle, waiting-settle, wakes-settle, free-total-cancel}
+use Rattle.band_balance.proofs.Requests.{count_named, count_named-append, entry_named-none, requests-give_back, requests-join, requests-poll_granted, requests-poll_waiting, requests-cancel}
 use Rattle.band_balance.proofs.Distinct.{once}
 use Rattle.band_base.specs.declared.poll.Poll.{Poll}
 use Rattle.band_base.specs.declared.poll.Poll.TheVariants.{Ready, Pending}
 use Rattle.band_base.specs.declared.poll.PollError.{PollError}
 use Rattle.band_base.specs.declared.poll.PollError.TheVariants as errors
-use Rattle.band_sem.specs.declared.acquire.Stage.{Stage}
-use Rattle.band_sem.specs.declared.acquire.Stage.TheVariants.{NotPolled, Joined, Finished}
-use Rattle.band_sem.specs.Laws.{IsSublist, AreNew, KeepsOrder, IsBehind, MakesRoomFor, LeavesOthers}
+use Rattle.band_sem.specs.Laws.{IsSublist, KeepsOrder, IsBehind, MakesRoomFor, LeavesOthers}
 use Rattle.band_sem.specs.Permit.{Permit}
 use Rattle.band_sem.specs.Request.{Request}
-use Rattle.band_sem.specs.Semaphore.{SemaphoreState, HeadWaits, FirstPoll, LaterPoll, PollsAt, Polls, cancelled, is_slot}
+use Rattle.band_sem.specs.Semaphore.{SemaphoreState, HeadWaits, FirstPoll, LaterPoll, is_slot}
 
 IsSublist-more : (e : Entry ℕ) (xs ys : List (Entry ℕ)) → IsSublist xs ys → IsSublist xs (e ∷ ys)
 IsSublist-more e [] ys h = tt
