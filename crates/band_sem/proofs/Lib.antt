@@ -1,4 +1,5 @@
 pub mod Lawful
+pub mod Laws
 pub mod Line
 pub mod Own
 pub mod Places

@@ -1,3 +1,4 @@
+pub mod Laws
 pub mod Permit
 pub mod Request
 pub mod Semaphore

@@ -1,5 +1,6 @@
 //! A request for permits.
 ghost use Rattle.std.specs.Prelude.{◌≡◌};
+ghost use Rattle.band_sem.specs.Laws.{KeepsOrder, Leaves};
 ghost use Rattle.band_sem.specs.Semaphore.{IsLawful, IsOwn, Polls, FirstPoll, LaterPoll, cancelled};
 
 use crate::store::Entrance;
@@ -72,6 +73,7 @@ impl Acquire {
         requires number { self.old.of ≡ sem.old.number }
         requires own { IsOwn self.old.stage self.old.size sem.old.line }
         ensures polls { Polls self.old waker.0 sem.old result self.new sem.new }
+        ensures order { KeepsOrder sem.old.line sem.new.line }
         ensures lawful { IsLawful sem.new.line sem.new.held }
     {
         match self.stage {
@@ -124,6 +126,8 @@ impl Acquire {
         requires number { self.of ≡ sem.old.number }
         requires own { IsOwn self.stage self.size sem.old.line }
         ensures state { sem.new ≡ cancelled self.stage sem.old }
+        ensures others { Leaves self.stage sem.old sem.new }
+        ensures order { KeepsOrder sem.old.line sem.new.line }
         ensures lawful { IsLawful sem.new.line sem.new.held }
     {
         match &self.stage {

@@ -2,6 +2,7 @@
 ghost use Rattle.std.specs.Prelude.{◌≡◌, ◌+◌, ◌-◌, ◌<◌, ◌≤◌, ◌↔◌, [], ◌∷◌, length, IsTrue, IsSome, IfSome, OnSome, IfNone, IsErrOf, OnOk, OnErr, MatchOption};
 ghost use Rattle.band_balance.specs.Line.{open_line, total, available, drained, overflows, owes_too_much, is_served, take_permits, give_back, cancel};
 ghost use Rattle.band_sem.specs.declared.acquire.Stage.{Stage};
+ghost use Rattle.band_sem.specs.Laws.{KeepsOrder, LeavesOthers};
 ghost use Rattle.band_sem.specs.Semaphore.{SemaphoreState, IsLawful, is_slot, with_wakes};
 ghost use Rattle.band_sem.specs.Store.{Enters, PollsSlot};
 
@@ -117,6 +118,7 @@ impl Semaphore {
         ensures overflow { IsErrOf result ReleaseError.Overflow ↔ IsTrue (overflows n self.old.line self.old.held) }
         ensures ok { OnOk result (self.new ≡ record self.old { line = give_back n self.old.line }) }
         ensures err { OnErr result (self.new ≡ self.old) }
+        ensures order { KeepsOrder self.old.line self.new.line }
         ensures lawful { IsLawful self.new.line self.new.held }
     {
         if self.store.release(n) {
@@ -157,6 +159,7 @@ impl Semaphore {
         requires keep { keep ≤ p.count }
         ensures permit { result ≡ record p { count = keep } }
         ensures state { self.new ≡ record self.old { line = give_back (p.count - keep) self.old.line; held = self.old.held - (p.count - keep) } }
+        ensures order { KeepsOrder self.old.line self.new.line }
         ensures lawful { IsLawful self.new.line self.new.held }
     {
         self.store.give_back(p.permits() - keep);
@@ -181,6 +184,7 @@ impl Semaphore {
         requires number { p.of ≡ self.old.number }
         requires held { p.count ≤ self.old.held }
         ensures state { self.new ≡ record self.old { line = give_back p.count self.old.line; held = self.old.held - p.count } }
+        ensures order { KeepsOrder self.old.line self.new.line }
         ensures lawful { IsLawful self.new.line self.new.held }
     {
         self.store.give_back(p.permits());
@@ -216,6 +220,8 @@ impl Semaphore {
     /// Ends the request under this slot. Then the line settles.
     pub(crate) fn cancel(&mut self, slot: u64)
         ensures state { self.new ≡ record self.old { line = cancel (is_slot slot) self.old.line } }
+        ensures others { LeavesOthers slot self.old self.new }
+        ensures order { KeepsOrder self.old.line self.new.line }
         ensures lawful { IsLawful self.new.line self.new.held }
     {
         self.store.cancel(slot);

@@ -1,15 +1,16 @@
-//! What no clause says: that calls succeed, in one small life of a semaphore.
-ghost use Rattle.std.specs.Prelude.{◌≡◌, ◌<◌, IsTrue};
-ghost use Rattle.band_balance.specs.Line.{is_served};
+//! What no clause says: that calls succeed, in small lives of a semaphore, and the texts of errors.
+ghost use Rattle.std.specs.Prelude.{◌≡◌, ◌+◌, ◌<◌, ◌≤◌, IsTrue};
+ghost use Rattle.band_balance.specs.Line.{give_back, is_served, take_permits};
 ghost use Rattle.band_base.specs.declared.poll.Poll.TheVariants as poll;
 ghost use Rattle.band_sem.specs.Semaphore.{IsLawful, IsOwn, Polls};
 
-use crate::{Acquire, Semaphore, SemaphorePermit};
+use crate::{Acquire, MergeError, ReduceError, ReleaseError, Semaphore, SemaphorePermit};
 use band_base::{Poll, PollError, Steps, Waker};
 use std::alloc::Global;
 use std::marker::Brand;
 use std::process::Abort;
 use std::sync::ledger::{Blank, Ledger};
+use std::test::Fail;
 
 /// A poll that leaves the request waiting.
 fn pends<L: Ledger, R: Abort>(
@@ -108,4 +109,175 @@ fn first_gives_up<L: Ledger, R: Abort>(rt: &R, alloc: Global, blank: Blank)
 #[test]
 fn the_first_gives_up(rt: HostRuntime) {
     first_gives_up::<Brand, HostRuntime>(&rt, rt.alloc(), Blank::new(1));
+}
+
+/// Adds permits.
+fn adds<L: Ledger, R: Abort>(rt: &R, sem: &mut Semaphore, n: u64, steps: &mut Steps<L>)
+    ensures state { sem.new ≡ record sem.old { line = give_back n sem.old.line } }
+    ensures lawful { IsLawful sem.new.line sem.new.held }
+{
+    if let Err(error) = sem.release(n, steps) {
+        panic!(rt; "{error}");
+    }
+}
+
+/// Takes permits that are there.
+fn takes<R: Abort>(rt: &R, sem: &mut Semaphore, n: u64) -> SemaphorePermit
+    ensures permit { result ≡ record { of = sem.old.number; count = n } }
+    ensures state { sem.new ≡ record sem.old { line = take_permits n sem.old.line; held = sem.old.held + n } }
+    ensures lawful { IsLawful sem.new.line sem.new.held }
+{
+    match sem.try_acquire(n) {
+        Some(permit) => permit,
+        None => panic!(rt; "they were to be there"),
+    }
+}
+
+/// One takes permits, another waits, and then permits are added twice.
+struct Waited {
+    permits: u64,
+    taken: u64,
+    asked: u64,
+    added: u64,
+    left: u64,
+    in_the_end: u64,
+}
+
+/// Who waited is woken once, has its permits before anybody else, and what is left is to be had.
+fn waits<L: Ledger, R: Abort>(rt: &R, alloc: Global, case: &Waited, steps: &mut Steps<L>) {
+    let mut sem = Semaphore::new(alloc, 5, case.permits);
+    let taken = takes(rt, &mut sem, case.taken);
+    let mut request = sem.acquire(case.asked);
+    pends(rt, &mut request, &mut sem, Waker(7), steps);
+    assert_eq!(rt; sem.waiting_count(), 1);
+    adds(rt, &mut sem, case.added, steps);
+    assert_eq!(rt; sem.take_wake().map(|waker| waker.0), Some(7));
+    assert!(rt; sem.take_wake().is_none());
+    assert_eq!(rt; sem.granted_permits(), case.asked);
+    assert_eq!(rt; sem.available_permits(), case.left);
+    let permit = gets(rt, &mut request, &mut sem, Waker(8), steps);
+    assert_eq!(rt; sem.held_permits(), case.taken + case.asked);
+    adds(rt, &mut sem, 1, steps);
+    assert_eq!(rt; sem.available_permits(), case.in_the_end);
+    taken.lose();
+    permit.lose();
+    request.lose();
+}
+
+fn each_waits<L: Ledger, R: Abort>(rt: &R, alloc: Global, blank: Blank)
+    requires name { blank.name ≡ L.name }
+    requires parts { blank.parts ≡ L.parts }
+    requires some { 0 < blank.parts }
+{
+    let mut steps: Steps<L> = Steps::new(blank);
+    for case in &[
+        Waited {
+            permits: 0,
+            taken: 0,
+            asked: 2,
+            added: 3,
+            left: 1,
+            in_the_end: 2,
+        },
+        Waited {
+            permits: 1,
+            taken: 1,
+            asked: 1,
+            added: 1,
+            left: 0,
+            in_the_end: 1,
+        },
+    ] {
+        waits(rt, alloc, case, &mut steps);
+    }
+}
+
+#[test]
+fn who_waits_is_served_first(rt: HostRuntime) {
+    each_waits::<Brand, HostRuntime>(&rt, rt.alloc(), Blank::new(1));
+}
+
+/// What is split off and merged again changes nothing.
+fn splits_and_merges<R: Abort>(rt: &R, permit: &mut SemaphorePermit, n: u64)
+    requires { permit.old.count ≤ u64.MAX }
+    ensures { permit.new ≡ permit.old }
+{
+    match permit.split(n) {
+        None => panic!(rt; "it has as many"),
+        Some(other) => match permit.merge(other) {
+            Ok(()) => {}
+            Err(MergeError::OtherSemaphore(back)) => {
+                back.lose();
+                panic!(rt; "they are of one semaphore")
+            }
+        },
+    }
+}
+
+/// Permits come and go while nobody waits.
+fn comes_and_goes<L: Ledger, R: Abort>(rt: &R, alloc: Global, blank: Blank)
+    requires name { blank.name ≡ L.name }
+    requires parts { blank.parts ≡ L.parts }
+    requires some { 0 < blank.parts }
+{
+    let mut steps: Steps<L> = Steps::new(blank);
+    let mut sem = Semaphore::new(alloc, 5, 1);
+    adds(rt, &mut sem, 2, &mut steps);
+    assert_eq!(rt; sem.available_permits(), 3);
+    let mut permit = takes(rt, &mut sem, 2);
+    adds(rt, &mut sem, 2, &mut steps);
+    assert_eq!(rt; sem.available_permits(), 3);
+    splits_and_merges(rt, &mut permit, 1);
+    let permit = sem.shrink(permit, 1, &mut steps);
+    assert_eq!(rt; sem.available_permits(), 4);
+    sem.forget(permit);
+    assert_eq!(rt; sem.held_permits(), 0);
+    assert_eq!(rt; sem.drain_permits(3), 3);
+    assert!(rt; sem.reduce_permits(3, &mut steps).is_ok());
+    assert_eq!(rt; sem.free(), -2);
+    assert_eq!(rt; sem.available_permits(), 0);
+}
+
+#[test]
+fn permits_come_and_go(rt: HostRuntime) {
+    comes_and_goes::<Brand, HostRuntime>(&rt, rt.alloc(), Blank::new(1));
+}
+
+/// What is too much is refused, and so is a permit of another semaphore.
+fn refuses<L: Ledger, R: Abort>(rt: &R, alloc: Global, blank: Blank)
+    requires name { blank.name ≡ L.name }
+    requires parts { blank.parts ≡ L.parts }
+    requires some { 0 < blank.parts }
+{
+    let mut steps: Steps<L> = Steps::new(blank);
+    let mut sem = Semaphore::new(alloc, 5, u64::MAX);
+    assert!(rt; sem.release(1, &mut steps).is_err());
+    assert_eq!(rt; sem.available_permits(), u64::MAX);
+    let mut other = Semaphore::new(alloc, 6, 0);
+    assert!(rt; other.reduce_permits(u64::MAX, &mut steps).is_ok());
+    assert!(rt; other.reduce_permits(1, &mut steps).is_err());
+    let mut permit = takes(rt, &mut sem, 2);
+    match permit.merge(takes(rt, &mut other, 0)) {
+        Err(MergeError::OtherSemaphore(back)) => back.lose(),
+        Ok(()) => panic!(rt; "they are of two semaphores"),
+    }
+    permit.lose();
+}
+
+#[test]
+fn too_much_is_refused(rt: HostRuntime) {
+    refuses::<Brand, HostRuntime>(&rt, rt.alloc(), Blank::new(1));
+}
+
+#[test]
+fn errors_read(rt: HostRuntime) -> Result<(), Fail> {
+    let overflow = ReleaseError::Overflow.to_string(rt.alloc())?;
+    assert_eq!(rt; overflow.as_str(), "the permits would overflow");
+    for (error, text) in [
+        (ReduceError::Debt, "the debt would overflow"),
+        (ReduceError::NoMemory, "out of memory"),
+    ] {
+        assert_eq!(rt; error.to_string(rt.alloc())?.as_str(), text);
+    }
+    Ok(())
 }

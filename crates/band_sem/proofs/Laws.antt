@@ -1,0 +1,162 @@
+-- The calls keep the order of the line, and who leaves it changes nothing for the others.
+use Rattle.std.proofs.Common.{◌≡◌, refl, ℕ, ◌+◌, ◌≤◌, Bool, true, false, cond, List, [], ◌∷◌, ◌++◌, map, pos, ◌+ℤ◌, Option, Some, None, Result, Ok, Err, inl, inr, nat_eq, arith, ap, sym, ◌∙◌, append-nil}
+use Rattle.std.specs.Bool.{OnTrue}
+use Rattle.std.specs.List.{IsDistinct}
+use Rattle.band_balance.specs.Line.{Entry, Waiting, Line, entry_of, requests, total, take_permits, give_back, join, entry_named, without, without_waiting, poll_granted, poll_waiting, settle, withdraw, cancel}
+use Rattle.band_balance.proofs.Settle.{passed, passed-left, le_false_from_lt, granted-settle, waiting-settle, wakes-settle, free-total-cancel}
+use Rattle.band_balance.proofs.Requests.{count_named, count_named-append, entry_named-none, requests-give_back, requests-join, requests-poll_granted, requests-poll_waiting, requests-cancel}
+use Rattle.band_balance.proofs.Distinct.{once}
+use Rattle.band_base.specs.declared.poll.Poll.{Poll}
+use Rattle.band_base.specs.declared.poll.Poll.TheVariants.{Ready, Pending}
+use Rattle.band_base.specs.declared.poll.PollError.{PollError}
+use Rattle.band_base.specs.declared.poll.PollError.TheVariants as errors
+use Rattle.band_sem.specs.Laws.{IsSublist, KeepsOrder, IsBehind, MakesRoomFor, LeavesOthers}
+use Rattle.band_sem.specs.Permit.{Permit}
+use Rattle.band_sem.specs.Request.{Request}
+use Rattle.band_sem.specs.Semaphore.{SemaphoreState, HeadWaits, FirstPoll, LaterPoll, is_slot}
+
+IsSublist-more : (e : Entry ℕ) (xs ys : List (Entry ℕ)) → IsSublist xs ys → IsSublist xs (e ∷ ys)
+IsSublist-more e [] ys h = tt
+IsSublist-more e (x ∷ xs) ys h = inr h
+
+IsSublist-itself : (xs : List (Entry ℕ)) → IsSublist xs xs
+IsSublist-itself [] = tt
+IsSublist-itself (x ∷ xs) = inl (refl, IsSublist-itself xs)
+
+IsSublist-without : (is : ℕ → Bool) (xs : List (Entry ℕ)) → IsSublist (without is xs) xs
+IsSublist-without is [] = tt
+IsSublist-without is (x ∷ xs) = go (is x.name) (IsSublist-without is xs)
+  where
+    go : (b : Bool) → IsSublist (without is xs) xs → IsSublist (cond b xs (x ∷ without is xs)) (x ∷ xs)
+    go true h = IsSublist-more x xs xs (IsSublist-itself xs)
+    go false h = inl (refl, h)
+
+-- nobody joins
+stays : (kept : List (Entry ℕ)) (old new : Line ℕ) → IsSublist kept (requests old) → requests new ≡ kept → KeepsOrder old new
+stays kept old new h same = (kept, ([], h, tt, same ∙ sym (append-nil kept)))
+
+pub KeepsOrder-same : (old new : Line ℕ) → requests new ≡ requests old → KeepsOrder old new
+KeepsOrder-same old new same = stays (requests old) old new (IsSublist-itself (requests old)) same
+
+KeepsOrder-without : (is : ℕ → Bool) (old new : Line ℕ) → requests new ≡ without is (requests old) → KeepsOrder old new
+KeepsOrder-without is old new same = stays (without is (requests old)) old new (IsSublist-without is (requests old)) same
+
+KeepsOrder-join : (slot size waker : ℕ) (old : Line ℕ) → entry_named (is_slot slot) (requests old) ≡ None → KeepsOrder old (join slot size waker old)
+KeepsOrder-join slot size waker old nobody = (requests old, (record { name = slot; size = size } ∷ [], IsSublist-itself (requests old), (nobody, tt), requests-join slot size waker old))
+
+pub KeepsOrder-give_back : (n : ℕ) (old : Line ℕ) → KeepsOrder old (give_back n old)
+KeepsOrder-give_back n old = KeepsOrder-same old (give_back n old) (requests-give_back n old)
+
+KeepsOrder-cancel : (slot : ℕ) (old : Line ℕ) → KeepsOrder old (cancel (is_slot slot) old)
+KeepsOrder-cancel slot old = KeepsOrder-without (is_slot slot) old (cancel (is_slot slot) old) (requests-cancel (is_slot slot) old)
+
+-- the same at states that are equal to these
+pub KeepsOrder-gives_back : (n : ℕ) (before old new : Line ℕ) → before ≡ old → new ≡ give_back n before → KeepsOrder old new
+KeepsOrder-gives_back n before old new same gives = rw (gives, same) (KeepsOrder-give_back n old)
+
+pub KeepsOrder-cancels : (slot : ℕ) (before old new : Line ℕ) → before ≡ old → new ≡ cancel (is_slot slot) before → KeepsOrder old new
+KeepsOrder-cancels slot before old new same cancels = rw (cancels, same) (KeepsOrder-cancel slot old)
+
+pub KeepsOrder-released : (released : Bool) (n : ℕ) (before old new : SemaphoreState) → before ≡ old → OnTrue released (new ≡ record before { line = give_back n before.line }) → (released ≡ false → new ≡ before) → KeepsOrder old.line new.line
+KeepsOrder-released true n before old new same done undone = KeepsOrder-gives_back n before.line old.line new.line (ap (λ s. s.line) same) (ap (λ s. s.line) done)
+KeepsOrder-released false n before old new same done undone = KeepsOrder-same old.line new.line (ap (λ s. requests s.line) (undone refl ∙ same))
+
+-- the order is kept from the old state to any that is the same as the new one
+module _ (old new : SemaphoreState) where
+  ordered_as : (other : SemaphoreState) → new ≡ other → KeepsOrder old.line other.line → KeepsOrder old.line new.line
+  ordered_as other same h = rw same h
+
+  unchanged : new ≡ old → KeepsOrder old.line new.line
+  unchanged same = ordered_as old same (KeepsOrder-same old.line old.line refl)
+
+  pub KeepsOrder-first_poll : (request request' : Request) (waker : ℕ) (result : Result (Poll Permit) PollError) → FirstPoll request waker old result request' new → KeepsOrder old.line new.line
+  KeepsOrder-first_poll request request' waker (Ok (Ready permit)) h = ordered_as _ h.2 (KeepsOrder-same old.line (take_permits request.size old.line) refl)
+  KeepsOrder-first_poll request request' waker (Ok Pending) h = ordered_as _ h.1.2 (KeepsOrder-join h.1.0 request.size waker old.line h.1.1)
+  KeepsOrder-first_poll request request' waker (Err errors.NoMemory) h = unchanged h.1
+  KeepsOrder-first_poll request request' waker (Err errors.Finished) h = absurd h
+  KeepsOrder-first_poll request request' waker (Err errors.CountFull) h = absurd h
+  KeepsOrder-first_poll request request' waker (Err errors.Unknown) h = absurd h
+  KeepsOrder-first_poll request request' waker (Err errors.Driven) h = absurd h
+
+  pub KeepsOrder-later_poll : (slot : ℕ) (request request' : Request) (waker : ℕ) (result : Result (Poll Permit) PollError) → LaterPoll slot request waker old result request' new → KeepsOrder old.line new.line
+  KeepsOrder-later_poll slot request request' waker (Ok (Ready permit)) h = ordered_as _ h.2 (KeepsOrder-without (is_slot slot) old.line (poll_granted (is_slot slot) old.line) (requests-poll_granted (is_slot slot) old.line _ h.0))
+  KeepsOrder-later_poll slot request request' waker (Ok Pending) h = ordered_as _ h.1 (KeepsOrder-same old.line (poll_waiting (is_slot slot) waker old.line) (requests-poll_waiting (is_slot slot) waker old.line))
+  KeepsOrder-later_poll slot request request' waker (Err error) h = absurd h
+
+-- nobody leaves where nobody is meant
+without-nobody : (is : ℕ → Bool) (xs : List (Entry ℕ)) → entry_named is xs ≡ None → without is xs ≡ xs
+without-nobody is [] h = refl
+without-nobody is (x ∷ xs) h = go (is x.name) h (without-nobody is xs)
+  where
+    go : (b : Bool) → cond b (Some x) (entry_named is xs) ≡ None → (entry_named is xs ≡ None → without is xs ≡ xs) → cond b xs (x ∷ without is xs) ≡ x ∷ xs
+    go true e k = cc
+    go false e k = ap (λ ys. x ∷ ys) (k e)
+
+without_waiting-nobody : (is : ℕ → Bool) (ws : List (Waiting ℕ)) → entry_named is (map entry_of ws) ≡ None → without_waiting is ws ≡ ws
+without_waiting-nobody is [] h = refl
+without_waiting-nobody is (w ∷ ws) h = go (is w.name) h (without_waiting-nobody is ws)
+  where
+    go : (b : Bool) → cond b (Some (entry_of w)) (entry_named is (map entry_of ws)) ≡ None → (entry_named is (map entry_of ws) ≡ None → without_waiting is ws ≡ ws) →
+        cond b ws (w ∷ without_waiting is ws) ≡ w ∷ ws
+    go true e k = cc
+    go false e k = ap (λ vs. w ∷ vs) (k e)
+
+module _ (slot : ℕ) (line : Line ℕ) (distinct : IsDistinct nat_eq (map (λ e. e.name) (requests line))) (head : HeadWaits line.free line.waiting) where
+  -- one that was granted doesn't wait
+  doesnt_wait : (found : Entry ℕ) → entry_named (is_slot slot) line.granted ≡ Some found → entry_named (is_slot slot) (map entry_of line.waiting) ≡ None
+  doesnt_wait found h =
+      let there = once slot (requests line) distinct in
+      let both = count_named-append (is_slot slot) line.granted (map entry_of line.waiting) in
+      entry_named-none (is_slot slot) (map entry_of line.waiting) (none_left (count_named (is_slot slot) line.granted) (count_named (is_slot slot) (map entry_of line.waiting)) some (omega (arith, there, both)))
+    where
+      some_is_none : (found : Option (Entry ℕ)) (e : Entry ℕ) → found ≡ None → found ≡ Some e → ⊥
+      some_is_none found e p q = cc
+
+      some : count_named (is_slot slot) line.granted ≡ 0 → ⊥
+      some none = some_is_none (entry_named (is_slot slot) line.granted) found (entry_named-none (is_slot slot) line.granted none) h
+
+      none_left : (a b : ℕ) → (a ≡ 0 → ⊥) → a + b ≤ 1 → b ≡ 0
+      none_left a b p q = grind arith
+
+  -- one that waited behind another makes room for nobody
+  behind : (ws : List (Waiting ℕ)) → HeadWaits line.free ws → IsBehind slot ws → passed line.free (without_waiting (is_slot slot) ws) ≡ []
+  behind [] k b = absurd b
+  behind (first ∷ rest) k b = rw (b, le_false_from_lt first.size line.free k) refl
+
+  abbrev room : Option (Entry ℕ) → List (Waiting ℕ)
+  room found = passed (withdraw found (is_slot slot) line).free (withdraw found (is_slot slot) line).waiting
+
+  makes_room : (found : Option (Entry ℕ)) → entry_named (is_slot slot) line.granted ≡ found →
+      (settle (withdraw found (is_slot slot) line)).free +ℤ pos (total (settle (withdraw found (is_slot slot) line)).granted) ≡ line.free +ℤ pos (total line.granted) →
+      MakesRoomFor slot line (settle (withdraw found (is_slot slot) line)) (room found)
+  makes_room (Some e) h sum =
+      let base = withdraw (Some e) (is_slot slot) line in
+      record {
+        waiting = without_waiting-nobody (is_slot slot) line.waiting (doesnt_wait e h) ∙ sym (passed-left base.free line.waiting) ∙ ap (λ ws. passed base.free line.waiting ++ ws) (sym (waiting-settle base));
+        granted = granted-settle base;
+        wakes = wakes-settle base;
+        sum = sum;
+        none_behind = λ none b. absurd (some_is_none (entry_named (is_slot slot) line.granted) e none h);
+      }
+    where
+      some_is_none : (found : Option (Entry ℕ)) (e : Entry ℕ) → found ≡ None → found ≡ Some e → ⊥
+      some_is_none found e p q = cc
+  makes_room None h sum =
+      let base = withdraw None (is_slot slot) line in
+      record {
+        waiting = sym (passed-left base.free base.waiting) ∙ ap (λ ws. passed base.free base.waiting ++ ws) (sym (waiting-settle base));
+        granted = granted-settle base ∙ ap (λ es. es ++ map entry_of (passed base.free base.waiting)) (sym (without-nobody (is_slot slot) line.granted h));
+        wakes = wakes-settle base;
+        sum = sum;
+        none_behind = λ none b. behind line.waiting head b;
+      }
+
+  pub MakesRoomFor-cancel : (granted_now : List (Waiting ℕ)) × MakesRoomFor slot line (cancel (is_slot slot) line) granted_now
+  MakesRoomFor-cancel = (room (entry_named (is_slot slot) line.granted), makes_room (entry_named (is_slot slot) line.granted) refl (free-total-cancel (is_slot slot) line))
+
+LeavesOthers-cancel : (slot : ℕ) (old : SemaphoreState) → IsDistinct nat_eq (map (λ e. e.name) (requests old.line)) → HeadWaits old.line.free old.line.waiting → LeavesOthers slot old (record old { line = cancel (is_slot slot) old.line })
+LeavesOthers-cancel slot old distinct head = (refl, refl, requests-cancel (is_slot slot) old.line, MakesRoomFor-cancel slot old.line distinct head)
+
+pub LeavesOthers-cancels : (slot : ℕ) (before old new : SemaphoreState) → before ≡ old → new ≡ record before { line = cancel (is_slot slot) before.line } →
+    IsDistinct nat_eq (map (λ e. e.name) (requests before.line)) → HeadWaits before.line.free before.line.waiting → LeavesOthers slot old new
+LeavesOthers-cancels slot before old new same cancels distinct head = rw (cancels, ← same) (LeavesOthers-cancel slot before distinct head)
