@@ -1,5 +1,6 @@
 //! Where bytes go to.
 ghost use Rattle.std.specs.Prelude.{◌≡◌, ℕ, ◌+◌, ◌-◌, ◌^◌, ◌<◌, ◌≤◌, min, List, [], ◌++◌, take, length, Option, Some, None, IfOk, IfErr, OnErr, MatchResult};
+ghost use Rattle.std.specs.Io.KnownBytes.{WriteAppends};
 ghost use Rattle.band_base.specs.Device.{Rose, Adds};
 
 use std::alloc::Global;
@@ -99,6 +100,8 @@ impl<W: Write> Edge<W> {
     fn write(&mut self, piece: &[u8]) -> Result<usize, SinkError>
         ensures count { IfOk result (λ n. n ≤ length piece.now) }
         ensures some { IfOk result (λ n. 0 < length piece.now → 0 < n) }
+        // What it answers is what the writer took: the n bytes of an `Ok(n)`, and at an error none.
+        ensures took { WriteAppends (W.contents self.old.writer) (W.contents self.new.writer) result piece.now }
         ensures failed { IfErr result (λ e. e ≡ SinkError.Failed) }
         ensures never_fall { self.old.faults ≤ self.new.faults }
         ensures counts { MatchResult result

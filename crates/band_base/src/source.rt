@@ -1,5 +1,6 @@
 //! Where bytes come from.
 ghost use Rattle.std.specs.Prelude.{◌≡◌, ℕ, ◌+◌, ◌-◌, ◌^◌, ◌<◌, ◌≤◌, min, List, [], ◌++◌, take, length, Option, Some, None, IfOk, OnErr, IfSome, MatchResult};
+ghost use Rattle.std.specs.Io.KnownBytes.{ReadConsumes};
 ghost use Rattle.band_base.specs.Device.{Rose, GivesFront};
 
 use std::io::{Read, Stdin};
@@ -76,11 +77,37 @@ impl Source for BytesIn<'_> {
     }
 }
 
+/// What stands under the standard input: a reader, and how often it has failed.
+#[derive(Drop)]
+struct Inlet<R> {
+    reader: R,
+    faults: u64,
+}
+
+impl<R: Read> Inlet<R> {
+    fn read(&mut self, buf: &mut [u8]) -> Result<usize, SourceFailed>
+        ensures count { IfOk result (λ n. n ≤ length buf.old) }
+        // What it answers is what the reader gave: the n bytes of an `Ok(n)`, 0 only at its end, and at an error none.
+        ensures gave { ReadConsumes (R.remaining self.old.reader) (R.remaining self.new.reader) result buf.new }
+        ensures never_fall { self.old.faults ≤ self.new.faults }
+        ensures counts { MatchResult result
+            (λ _. self.new.faults ≡ self.old.faults)
+            (λ _. self.new.faults ≡ min (self.old.faults + 1) (2 ^ 64 - 1)) }
+    {
+        match self.reader.read(buf) {
+            Ok(count) => Ok(count),
+            Err(_) => {
+                self.faults = self.faults.saturating_add(1);
+                Err(SourceFailed)
+            }
+        }
+    }
+}
+
 /// The process's standard input as a source. It tells no bytes; contracts see how often it has failed.
 #[derive(Drop)]
 pub struct StdIn {
-    stdin: Stdin,
-    faults: u64,
+    inlet: Inlet<Stdin>,
 }
 
 impl Model for StdIn {
@@ -88,7 +115,7 @@ impl Model for StdIn {
 
     ghost Value = { ℕ };
 
-    ghost view = { λ s. s.faults };
+    ghost view = { λ s. s.inlet.faults };
 }
 
 impl StdIn {
@@ -96,7 +123,12 @@ impl StdIn {
     pub fn new(stdin: Stdin) -> StdIn
         ensures { result ≡ 0 }
     {
-        StdIn { stdin, faults: 0 }
+        StdIn {
+            inlet: Inlet {
+                reader: stdin,
+                faults: 0,
+            },
+        }
     }
 }
 
@@ -115,12 +147,6 @@ impl Source for StdIn {
             (λ _. self.new ≡ self.old)
             (λ _. self.new ≡ min (self.old + 1) (2 ^ 64 - 1)) }
     {
-        match self.stdin.read(buf) {
-            Ok(count) => Ok(count),
-            Err(_) => {
-                self.faults = self.faults.saturating_add(1);
-                Err(SourceFailed)
-            }
-        }
+        self.inlet.read(buf)
     }
 }
