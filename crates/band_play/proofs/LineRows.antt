@@ -5,7 +5,7 @@ use Rattle.band_play.specs.declared.call.Call.TheVariants.{Sem, Ask, Poll, Drop,
 use Rattle.band_play.specs.Name.{name_of}
 use Rattle.band_play.specs.Number.{number_of}
 use Rattle.band_play.specs.Words.{name_at, number_at}
-use Rattle.band_play.specs.Grammar.{call_of, form_of, one_name_of, two_names_of, name_number_of, two_names_number_of, ask_of}
+use Rattle.band_play.specs.Grammar.{call_of, form_of, one_name_of, name_number_of, two_names_number_of, ask_of}
 
 sem_row : call_of (codes "sem sem 0") ≡ Some (Sem (codes "sem") 0)
 unfolding call_of form_of name_number_of name_at number_at name_of number_of

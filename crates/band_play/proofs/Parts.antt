@@ -120,7 +120,7 @@ module _ (names : ℕ → ℕ → Tag) (table mid table' : List ℕ → Option T
   too_few m made count n beyond own =
       subst (λ (o : Option (Entry Tag)). TurnsTo names table sems state place sem named Nothing (split_of o (is_tag m) (permit_tag made) n named.object)) (sym own)
         (subst (λ (t : Turn Tag). TurnsTo names table sems state place sem named Nothing t)
-          (sym (cond_false (nat_le n count) (turn Done (record named.object { held = hold (permit_tag made) n (resize (is_tag m) (count - n) named.object.held) })) (turn Nothing named.object) (lt-leb count n beyond)))
+          (sym (cond_false (nat_le n count) (turn Done (record named.object { held = hold (permit_tag made) n (resize (is_tag m) (count - n) named.object.held) })) (turn Nothing named.object) (lt-leb n count beyond)))
           (same_turn names table sems state place sem named stands at_sem at_named no_wakes Nothing))
 
   module _ (kept spent : List ℕ) (count other : ℕ) (apart : bytes_eq kept spent ≡ false) (within : other ≤ sem.held)
