@@ -68,7 +68,7 @@ fn run_on<S: Source, D: Sink>(alloc: Global, words: &[String], src: &mut S, dst:
 }
 
 fn play_word(alloc: Global) -> Result<Vec<String>, AllocError> {
-    vec![in alloc; String::from_str(alloc, "play")?]
+    Ok(vec![in alloc; String::from_str(alloc, "play")?]?)
 }
 
 #[test]
