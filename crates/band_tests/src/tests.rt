@@ -213,7 +213,12 @@ fn tells_a_write_fault(rt: HostRuntime) -> Result<(), Fail> {
     let table = [
         (0, "write fault", 6, ""),
         (5, "write fault", 6, "ok\npending\npen"),
-        (12, "write fault", 6, "ok\npending\npending\nok\nwake 8\nrea"),
+        (
+            12,
+            "write fault",
+            6,
+            "ok\npending\npending\nok\nwake 8\nrea",
+        ),
         (13, "5 lines", 0, STORED_OUT),
     ];
     for (writes, outcome, status, written) in table {
