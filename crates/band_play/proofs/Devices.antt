@@ -1,8 +1,8 @@
 -- What is added or taken in two steps.
-use Rattle.std.proofs.Common.{◌≡◌, ℕ, ◌≤◌, List, [], ◌++◌, take, drop, Option, Some, None, refl, sym, ◌∙◌, ap, subst, append_assoc, append-nil, length, ◌-◌, ◌≤◌, arith}
+use Rattle.std.proofs.Common.{◌≡◌, ℕ, List, [], ◌++◌, take, drop, Option, Some, None, refl, sym, ◌∙◌, ap, subst, append_assoc, append-nil, length, length-append, ◌+◌, ◌-◌, ◌≤◌, arith}
 use Rattle.std.proofs.lemmas.List.{take-append-drop, take_rest}
 use Rattle.band_base.specs.Device.{Rose, Adds, GivesFront}
-use Rattle.band_play.specs.Play.{AddsFront}
+use Rattle.band_play.specs.Play.{AddsFront, Takes}
 
 pub adds_nothing : (at : Option (List ℕ)) → Adds [] at at
 adds_nothing None = tt
@@ -27,6 +27,26 @@ gives_more a b None (Some y) z p q = absurd p
 gives_more a b (Some x) None z p q = absurd p
 gives_more a b (Some x) (Some y) None p q = absurd q
 gives_more a b (Some x) (Some y) (Some z) p q = rw (p, q) (sym (append_assoc a b z))
+
+-- a piece of at most this size was taken
+pub takes_piece : (piece : List ℕ) (n : ℕ) (x y : Option (List ℕ)) → GivesFront piece x y → length piece ≤ n → Takes n x y
+takes_piece piece n None y p size = tt
+takes_piece piece n (Some x) None p size = absurd p
+takes_piece piece n (Some x) (Some y) p size = (piece, p, size)
+
+-- where all is left, nothing was taken
+pub takes_nothing : (n : ℕ) (x y : Option (List ℕ)) → y ≡ x → Takes n x y
+takes_nothing n x y e =
+    let P : Option (List ℕ) → Type 0 = λ o. Takes n x o in
+    subst P (sym e) (takes_piece [] n x x (gives_nothing x) (omega arith))
+
+-- after a piece, at most so many more
+pub takes_after : (piece : List ℕ) (n m : ℕ) (x y z : Option (List ℕ)) → GivesFront piece x y → Takes n y z → length piece + n ≤ m → Takes m x z
+takes_after piece n m None y z p q size = tt
+takes_after piece n m (Some x) None z p q size = absurd p
+takes_after piece n m (Some x) (Some y) None p q size = absurd q
+takes_after piece n m (Some x) (Some y) (Some z) p q size =
+    (piece ++ q.0, p ∙ ap (λ r. piece ++ r) q.1 ∙ sym (append_assoc piece q.0 z), omega (arith, length-append piece q.0, q.2, size))
 
 -- a front of what comes after a text is one of the whole
 pub front_after : (a b : List ℕ) (x y z : Option (List ℕ)) → Adds a x y → AddsFront b y z → AddsFront (a ++ b) x z

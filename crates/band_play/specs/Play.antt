@@ -25,6 +25,12 @@ abbrev pub AllRead : Option (List ℕ) → Option (List ℕ) → Type 0
 AllRead None left = Unit {0}
 AllRead (Some bytes) left = left ≡ Some []
 
+-- where the source told its bytes: at most this many were taken from their front
+abbrev pub Takes : ℕ → Option (List ℕ) → Option (List ℕ) → Type 0
+Takes n None left = Unit {0}
+Takes n (Some bytes) None = ⊥
+Takes n (Some bytes) (Some left) = (given : List ℕ) × (bytes ≡ given ++ left) × (length given ≤ n)
+
 -- these bytes were given within the limit, each of their ended lines stands for a call, and exactly the transcript of those was written
 pub record PlaysGiven (limit : ℕ) (given : List ℕ) (before after : Option (List ℕ)) : Type 0 where
   pub within : length given ≤ limit
@@ -42,6 +48,10 @@ StopsEarly limit (Some bytes) (Some left) before after =
 abbrev pub WritesFront : ℕ → Option (List ℕ) → Option (List ℕ) → Option (List ℕ) → Type 0
 WritesFront limit None before after = Unit {0}
 WritesFront limit (Some bytes) before after = AddsFront (transcript (calls_within limit bytes)) before after
+
+-- the most bytes of a script that the program plays
+abbrev pub program_limit : ℕ
+program_limit = 16777216
 
 -- the exit statuses of the program
 abbrev pub IsStatus : ℕ → Type 0

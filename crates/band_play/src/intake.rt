@@ -2,6 +2,7 @@
 ghost use Rattle.std.specs.Prelude.{◌≡◌, ◌+◌, ◌<◌, ◌≤◌, ◌++◌, length, take, IfOk};
 ghost use Rattle.band_base.specs.Device.{GivesFront};
 ghost use Rattle.band_play.specs.Intake.{Ends, Gains};
+ghost use Rattle.band_play.specs.Play.{Takes};
 
 use band_base::{Source, SourceFailed};
 use std::alloc::{AllocError, Global};
@@ -36,6 +37,7 @@ pub(crate) fn take_in<S: Source>(
     requires { limit < u64.MAX }
     ensures front { IfOk result (λ intake. GivesFront intake.bytes.items (S.left src.old) (S.left src.new)) }
     ensures ends { IfOk result (λ intake. Ends limit intake.end intake.bytes.items (S.left src.new) (S.faults src.old) (S.faults src.new)) }
+    ensures takes { Takes (limit + 1) (S.left src.old) (S.left src.new) }
     ensures never_fall { S.faults src.old ≤ S.faults src.new }
 {
     let mut bytes = Vec::new(alloc);
@@ -66,6 +68,7 @@ fn take_piece<S: Source>(
     requires some { 0 < room }
     requires fits { room ≤ 4096 }
     ensures gains { IfOk result (λ read. Gains read room bytes.old.items bytes.new.items (S.left src.old) (S.left src.new) (S.faults src.old) (S.faults src.new)) }
+    ensures takes { Takes room (S.left src.old) (S.left src.new) }
     ensures never_fall { S.faults src.old ≤ S.faults src.new }
 {
     let mut piece = [0; PIECE];

@@ -1,8 +1,8 @@
 //! The program over its words, a source and two sinks.
-ghost use Rattle.std.specs.Prelude.{◌≡◌, ◌≢◌, ◌↔◌, ℕ, ◌≤◌, [], ◌∷◌, codes, map, string_bytes, IsTrue};
+ghost use Rattle.std.specs.Prelude.{◌≡◌, ◌≢◌, ◌↔◌, ℕ, ◌+◌, ◌≤◌, [], ◌∷◌, codes, map, string_bytes, IsTrue};
 ghost use Rattle.band_base.specs.Device.{Rose};
 ghost use Rattle.band_play.specs.Script.{Good, Malformed, TooLong};
-ghost use Rattle.band_play.specs.Play.{Comes, AllRead, StopsEarly, WritesFront, IsStatus, status_of};
+ghost use Rattle.band_play.specs.Play.{Comes, AllRead, Takes, StopsEarly, WritesFront, IsStatus, status_of, program_limit};
 
 use crate::{PlayFault, play};
 use band_base::{Sink, Source, Steps};
@@ -25,15 +25,16 @@ pub fn run<S: Source, D: Sink, E: Sink, L: Ledger>(
     ensures usage { (result ≡ 2) ↔ (map string_bytes words.now ≢ codes "play" ∷ []) }
     ensures untouched { result ≡ 2 → (src.new ≡ src.old) × (dst.new ≡ dst.old) }
     ensures quiet { err.new ≡ err.old }
-    ensures ok { result ≡ 0 → (lines : ℕ) × Comes (Good lines) LIMIT (S.left src.old) (D.written dst.old) (D.written dst.new) }
+    ensures ok { result ≡ 0 → (lines : ℕ) × Comes (Good lines) program_limit (S.left src.old) (D.written dst.old) (D.written dst.new) }
     ensures all_read { result ≡ 0 → AllRead (S.left src.old) (S.left src.new) }
-    ensures malformed { result ≡ 3 → (line : ℕ) × Comes (Malformed line) LIMIT (S.left src.old) (D.written dst.old) (D.written dst.new) }
-    ensures too_long { result ≡ 4 → Comes TooLong LIMIT (S.left src.old) (D.written dst.old) (D.written dst.new) }
+    ensures takes { Takes (program_limit + 1) (S.left src.old) (S.left src.new) }
+    ensures malformed { result ≡ 3 → (line : ℕ) × Comes (Malformed line) program_limit (S.left src.old) (D.written dst.old) (D.written dst.new) }
+    ensures too_long { result ≡ 4 → Comes TooLong program_limit (S.left src.old) (D.written dst.old) (D.written dst.new) }
     ensures read { result ≡ 5 → Rose (S.faults src.old) (S.faults src.new) }
-    ensures stops { result ≡ 5 → StopsEarly LIMIT (S.left src.old) (S.left src.new) (D.written dst.old) (D.written dst.new) }
+    ensures stops { result ≡ 5 → StopsEarly program_limit (S.left src.old) (S.left src.new) (D.written dst.old) (D.written dst.new) }
     ensures write { result ≡ 6 → Rose (D.faults dst.old) (D.faults dst.new) }
-    ensures front { result ≡ 6 → WritesFront LIMIT (S.left src.old) (D.written dst.old) (D.written dst.new) }
-    ensures no_memory { result ≡ 7 → WritesFront LIMIT (S.left src.old) (D.written dst.old) (D.written dst.new) }
+    ensures front { result ≡ 6 → WritesFront program_limit (S.left src.old) (D.written dst.old) (D.written dst.new) }
+    ensures no_memory { result ≡ 7 → WritesFront program_limit (S.left src.old) (D.written dst.old) (D.written dst.new) }
     ensures reads_never_fall { S.faults src.old ≤ S.faults src.new }
     ensures writes_never_fall { D.faults dst.old ≤ D.faults dst.new }
 {

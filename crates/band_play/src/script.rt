@@ -1,8 +1,8 @@
 //! The playing of a script from a source to a sink.
-ghost use Rattle.std.specs.Prelude.{◌≡◌, ℕ, ◌<◌, ◌≤◌, take, OnOk, IfOk, IfErr, Err};
+ghost use Rattle.std.specs.Prelude.{◌≡◌, ℕ, ◌+◌, ◌<◌, ◌≤◌, take, OnOk, IfOk, IfErr, Err};
 ghost use Rattle.band_base.specs.Device.{Rose};
 ghost use Rattle.band_play.specs.Script.{Good, Malformed, TooLong};
-ghost use Rattle.band_play.specs.Play.{Comes, AllRead, StopsEarly, WritesFront};
+ghost use Rattle.band_play.specs.Play.{Comes, AllRead, Takes, StopsEarly, WritesFront};
 ghost use Rattle.band_play.specs.Given.{HasSize, ComesOf, Fails, answer_at_end};
 
 use crate::PlayFault;
@@ -24,6 +24,7 @@ pub fn play<S: Source, D: Sink, L: Ledger>(
     requires { limit < u64.MAX }
     ensures ok { IfOk result (λ lines. Comes (Good lines) limit (S.left src.old) (D.written dst.old) (D.written dst.new)) }
     ensures all_read { OnOk result (AllRead (S.left src.old) (S.left src.new)) }
+    ensures takes { Takes (limit + 1) (S.left src.old) (S.left src.new) }
     ensures malformed { (line : ℕ) → result ≡ Err (PlayFault.Malformed line) → Comes (Malformed line) limit (S.left src.old) (D.written dst.old) (D.written dst.new) }
     ensures too_long { result ≡ Err PlayFault.TooLong → Comes TooLong limit (S.left src.old) (D.written dst.old) (D.written dst.new) }
     ensures read { result ≡ Err PlayFault.Read → Rose (S.faults src.old) (S.faults src.new) }

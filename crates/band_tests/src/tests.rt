@@ -1,7 +1,7 @@
 //! Scripts, and what they come to.
 ghost use Rattle.std.specs.Prelude.{◌≡◌, ◌<◌};
 
-use crate::devices::{Drips, Sips};
+use crate::devices::{Drips, FailingSink, FailingSource, Lasts, Measured, Sips};
 use band_base::{BytesIn, BytesOut, Sink, Source, Steps};
 use band_play::{Call, Name, PlayFault, Player, Reply, play, run};
 use std::alloc::{AllocError, Global};
@@ -47,11 +47,11 @@ fn play_on<S: Source, D: Sink>(
     }
 }
 
-fn run_counted<L: Ledger>(
+fn run_counted<S: Source, D: Sink, L: Ledger>(
     alloc: Global,
     words: &[String],
-    src: &mut BytesIn,
-    dst: &mut BytesOut,
+    src: &mut S,
+    dst: &mut D,
     blank: Blank,
 ) -> u8
     requires name { blank.name ≡ L.name }
@@ -63,8 +63,12 @@ fn run_counted<L: Ledger>(
     run(alloc, words, src, dst, &mut err, &mut steps)
 }
 
-fn run_on(alloc: Global, words: &[String], src: &mut BytesIn, dst: &mut BytesOut) -> u8 {
-    run_counted::<Brand>(alloc, words, src, dst, Blank::new(1))
+fn run_on<S: Source, D: Sink>(alloc: Global, words: &[String], src: &mut S, dst: &mut D) -> u8 {
+    run_counted::<S, D, Brand>(alloc, words, src, dst, Blank::new(1))
+}
+
+fn play_word(alloc: Global) -> Result<Vec<String>, AllocError> {
+    Ok(vec![in alloc; String::from_str(alloc, "play")?]?)
 }
 
 #[test]
@@ -95,7 +99,7 @@ fn plays_scripts(rt: HostRuntime) -> Result<(), Fail> {
 
 #[test]
 fn answers_a_status(rt: HostRuntime) -> Result<(), Fail> {
-    let words = vec![in rt.alloc(); String::from_str(rt.alloc(), "play")?]?;
+    let words = play_word(rt.alloc())?;
     let table = [
         ("", 0, ""),
         (STORED, 0, STORED_OUT),
@@ -134,6 +138,100 @@ fn plays_in_small_pieces(rt: HostRuntime) -> Result<(), Fail> {
     let said = play_on(rt.alloc(), &mut src, &mut dst, 100)?;
     assert_eq!(rt; said.as_str(), "5 lines");
     assert_eq!(rt; dst.0.bytes(), STORED_OUT.as_bytes());
+    Ok(())
+}
+
+#[test]
+fn reads_at_most_4096_bytes(rt: HostRuntime) -> Result<(), Fail> {
+    let mut script = String::new(rt.alloc());
+    for _ in 0..600 {
+        script.push_str("sem s 1\n")?;
+    }
+    let bytes = BytesIn::new(script.as_bytes());
+    let mut src = Measured { bytes, longest: 0 };
+    let mut dst = BytesOut::new(rt.alloc());
+    let said = play_on(rt.alloc(), &mut src, &mut dst, 10_000)?;
+    assert_eq!(rt; said.as_str(), "600 lines");
+    assert_eq!(rt; src.longest, 4096);
+    // "ok", then 599 times "refused taken".
+    assert_eq!(rt; dst.bytes().len(), 8389);
+    Ok(())
+}
+
+#[test]
+fn writes_whole_lines(rt: HostRuntime) -> Result<(), Fail> {
+    let mut src = BytesIn::new(STORED.as_bytes());
+    let mut dst = Lasts(BytesOut::new(rt.alloc()));
+    let said = play_on(rt.alloc(), &mut src, &mut dst, 100)?;
+    assert_eq!(rt; said.as_str(), "5 lines");
+    assert_eq!(rt; dst.0.bytes(), b"\n\n\n\n\n".as_slice());
+    Ok(())
+}
+
+fn failing_source(reads_left: u64) -> FailingSource<'static> {
+    let bytes = Drips(BytesIn::new(STORED.as_bytes()));
+    FailingSource {
+        bytes,
+        reads_left,
+        faults: 0,
+    }
+}
+
+#[test]
+fn tells_a_read_fault(rt: HostRuntime) -> Result<(), Fail> {
+    let words = play_word(rt.alloc())?;
+    let table = [
+        (7, "read fault", 5, ""),
+        (25, "read fault", 5, "ok\npending\n"),
+        (48, "read fault", 5, STORED_OUT),
+        (49, "5 lines", 0, STORED_OUT),
+    ];
+    for (reads, outcome, status, written) in table {
+        let mut dst = BytesOut::new(rt.alloc());
+        let said = play_on(rt.alloc(), &mut failing_source(reads), &mut dst, 100)?;
+        assert_eq!(rt; said.as_str(), outcome);
+        assert_eq!(rt; dst.bytes(), written.as_bytes());
+        let mut dst = BytesOut::new(rt.alloc());
+        let src = &mut failing_source(reads);
+        assert_eq!(rt; run_on(rt.alloc(), &words, src, &mut dst), status);
+        assert_eq!(rt; dst.bytes(), written.as_bytes());
+    }
+    Ok(())
+}
+
+fn failing_sink(alloc: Global, writes_left: u64) -> FailingSink {
+    FailingSink {
+        bytes: Sips(BytesOut::new(alloc)),
+        writes_left,
+        faults: 0,
+    }
+}
+
+#[test]
+fn tells_a_write_fault(rt: HostRuntime) -> Result<(), Fail> {
+    let words = play_word(rt.alloc())?;
+    let table = [
+        (0, "write fault", 6, ""),
+        (5, "write fault", 6, "ok\npending\npen"),
+        (
+            12,
+            "write fault",
+            6,
+            "ok\npending\npending\nok\nwake 8\nrea",
+        ),
+        (13, "5 lines", 0, STORED_OUT),
+    ];
+    for (writes, outcome, status, written) in table {
+        let mut src = BytesIn::new(STORED.as_bytes());
+        let mut dst = failing_sink(rt.alloc(), writes);
+        let said = play_on(rt.alloc(), &mut src, &mut dst, 100)?;
+        assert_eq!(rt; said.as_str(), outcome);
+        assert_eq!(rt; dst.bytes.0.bytes(), written.as_bytes());
+        let mut src = BytesIn::new(STORED.as_bytes());
+        let mut dst = failing_sink(rt.alloc(), writes);
+        assert_eq!(rt; run_on(rt.alloc(), &words, &mut src, &mut dst), status);
+        assert_eq!(rt; dst.bytes.0.bytes(), written.as_bytes());
+    }
     Ok(())
 }
 
