@@ -67,6 +67,54 @@ fn run_on<S: Source, D: Sink>(alloc: Global, words: &[String], src: &mut S, dst:
     run_counted::<S, D, Brand>(alloc, words, src, dst, Blank::new(1))
 }
 
+#[test]
+fn plays_on_amounts(rt: HostRuntime) -> Result<(), Fail> {
+    let table = [
+        (
+            "sem s 1\nask a s 2 7\nask b s 1 8\ndrop a\nstatus s\npoll b 9\n",
+            "ok\npending\npending\nok\nwake 8\navailable 0 free 0 waiting 0 granted 1 held 0\nready\n",
+        ),
+        (
+            "sem s 1\nask a s 2 7\nstatus s\n",
+            "ok\npending\navailable 0 free 1 waiting 1 granted 0 held 0\n",
+        ),
+        (
+            "sem s 2\nask a s 2 1\nreduce s 1\nask b s 1 2\ndrop a\nstatus s\n",
+            "ok\nready\nok\npending\nok\nwake 2\navailable 0 free 0 waiting 0 granted 1 held 0\n",
+        ),
+        (
+            "sem s 1\nask a s 3 1\nreduce s 2\nask b s 1 2\ndrop a\nrelease s 2\n",
+            "ok\npending\nok\npending\nok\nok\nwake 2\n",
+        ),
+        (
+            "sem s 0\nask a s 3 1\nask z s 0 2\ntry y s 0\ntry x s 1\n",
+            "ok\npending\nready\nok\nnone\n",
+        ),
+        (
+            "sem s 18446744073709551615\ntry p s 1\nrelease s 1\ndrop p\nrelease s 0\n",
+            "ok\nok\nrefused overflow\nok\nok\n",
+        ),
+        (
+            "sem s 0\nreduce s 18446744073709551615\nreduce s 1\nstatus s\n",
+            "ok\nok\nrefused debt\navailable 0 free -18446744073709551615 waiting 0 granted 0 held 0\n",
+        ),
+        (
+            "sem s 5\ndrain s 3\ndrain s 9\nrelease s 1\nask a s 2 4\ndrain s 1\nforget a\n",
+            "ok\ndrained 3\ndrained 2\nok\npending\ndrained 0\nrefused kind\n",
+        ),
+        (
+            "sem s 2\ntry p s 2\nforget p\ndrop p\nstatus s\n",
+            "ok\nok\nok\nrefused unknown\navailable 0 free 0 waiting 0 granted 0 held 0\n",
+        ),
+    ];
+    for (script, written) in table {
+        let mut dst = BytesOut::new(rt.alloc());
+        play_on(rt.alloc(), &mut BytesIn::new(script.as_bytes()), &mut dst, 100)?;
+        assert_eq!(rt; dst.bytes(), written.as_bytes());
+    }
+    Ok(())
+}
+
 fn play_word(alloc: Global) -> Result<Vec<String>, AllocError> {
     Ok(vec![in alloc; String::from_str(alloc, "play")?]?)
 }
