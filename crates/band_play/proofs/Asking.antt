@@ -108,21 +108,21 @@ module _ (names : ℕ → ℕ → Tag) (table table' : List ℕ → Option Thing
     pub holding_turn : (answer : Answer) → TurnsTo names table' sems state place holding_sem named answer (turn answer holding_object)
     holding_turn answer =
         turns_to names names table table' made _ sems state place sem holding_sem named holding_object stands update at_sem at_named other_names nowhere not_object
-          renamed refl refl
-          (total-append named.object.held (record { name = permit_tag made; size = n } ∷ []) ∙ ap₂ (λ a b. a + b) here.held (zero-add n))
-          lawful
-          (rw same_requests (all_weaker _ _ (λ (e : Entry ℕ) is. table_stays (names place e.name).name (request_at place e) is) (requests sem.line) here.each_request))
-          (all_of_both _ named.object.held (record { name = permit_tag made; size = n } ∷ [])
-            (all_weaker _ _ (λ (e : Entry Tag) is. table_stays e.name.name (permit_at place e) is) named.object.held here.each_held)
-            (update.here made (bytes_same made made refl), tt))
-          (once_push (λ (a b : Tag). bytes_eq a.name b.name) named.object.held (record { name = permit_tag made; size = n }) here.held_once held_apart)
-          (record {
-            name = refl;
-            request = λ name slot e other found called. (ap (entry_named (is_slot slot)) same_requests ∙ found, called);
-            permit = λ name e other found. found_before n name e named.object.held found;
-          })
-          (with_object named (quieted holding_object), at_set_same state place named (with_object named (quieted holding_object)) at_named, found_last n named.object.held held_apart)
-          answer
+        renamed refl refl
+        (total-append named.object.held (record { name = permit_tag made; size = n } ∷ []) ∙ ap₂ (λ a b. a + b) here.held (zero-add n))
+        lawful
+        (rw same_requests (all_weaker _ _ (λ (e : Entry ℕ) is. table_stays (names place e.name).name (request_at place e) is) (requests sem.line) here.each_request))
+        (all_of_both _ named.object.held (record { name = permit_tag made; size = n } ∷ [])
+        (all_weaker _ _ (λ (e : Entry Tag) is. table_stays e.name.name (permit_at place e) is) named.object.held here.each_held)
+        (update.here made (bytes_same made made refl), tt))
+        (once_push (λ (a b : Tag). bytes_eq a.name b.name) named.object.held (record { name = permit_tag made; size = n }) here.held_once held_apart)
+        (record {
+          name = refl;
+          request = λ name slot e other found called. (ap (entry_named (is_slot slot)) same_requests ∙ found, called);
+          permit = λ name e other found. found_before n name e named.object.held found;
+        })
+        (with_object named (quieted holding_object), at_set_same state place named (with_object named (quieted holding_object)) at_named, found_last n named.object.held held_apart)
+        answer
 
   module _ (served : is_served n sem.line ≡ true) (update : Updated table table' made (Some (things.Permit (record { of = place; count = n }))))
       (lawful : IsLawful (take_permits n sem.line) (sem.held + n)) where
@@ -138,14 +138,14 @@ module _ (names : ℕ → ℕ → Tag) (table table' : List ℕ → Option Thing
     pub asked_served : TurnsTo names table' sems state place served_sem named Ready (ask (permit_tag made) n waker named.object)
     asked_served =
         subst (λ (t : Turn Tag). TurnsTo names table' sems state place served_sem named Ready t)
-          (sym (cond_true (is_served n named.object.line) (turn Ready served_object) (turn Pending (record named.object { line = join (permit_tag made) n waker named.object.line })) (asked_test ∙ served)))
-          (served_turn Ready)
+        (sym (cond_true (is_served n named.object.line) (turn Ready served_object) (turn Pending (record named.object { line = join (permit_tag made) n waker named.object.line })) (asked_test ∙ served)))
+        (served_turn Ready)
 
     pub tried_served : TurnsTo names table' sems state place served_sem named Done (try_for (permit_tag made) n named.object)
     tried_served =
         subst (λ (t : Turn Tag). TurnsTo names table' sems state place served_sem named Done t)
-          (sym (cond_true (is_served n named.object.line) (turn Done served_object) (turn Nothing named.object) (asked_test ∙ served)))
-          (served_turn Done)
+        (sym (cond_true (is_served n named.object.line) (turn Done served_object) (turn Nothing named.object) (asked_test ∙ served)))
+        (served_turn Done)
 
   -- it joins under a slot that nobody has
   module _ (slot : ℕ) (waits : is_served n sem.line ≡ false) (fresh : entry_named (is_slot slot) (requests sem.line) ≡ None)

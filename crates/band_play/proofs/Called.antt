@@ -1,9 +1,8 @@
 -- What a call of an object by its name comes to in the player's table, from what its semaphore did.
-use Rattle.std.proofs.Common.{◌≡◌, ℕ, ◌+◌, Bool, false, true, zero, suc, List, [], ◌∷◌, Option, Some, None, Err, Ok, Result, refl, sym, ap, ◌∙◌, subst}
+use Rattle.std.proofs.Common.{◌≡◌, ℕ, Bool, false, true, zero, suc, List, [], ◌∷◌, Option, Some, None, Err, Ok, Result, refl, sym, ap, ◌∙◌, subst}
 use Rattle.std.specs.Prelude.{ℤ}
 use Rattle.std.specs.List.{slice_get, slice_set}
-use Rattle.std.proofs.lemmas.Bool.{false≢true}
-use Rattle.std.proofs.lemmas.Option.{same_Some, none-some}
+use Rattle.std.proofs.lemmas.Option.{same_Some}
 use Rattle.band_sem.specs.Semaphore.{SemaphoreState}
 use Rattle.band_sem.specs.declared.refusal.Refusal.{Refusal}
 use Rattle.band_sem.specs.declared.errors.ReleaseError.{ReleaseError}
@@ -54,16 +53,16 @@ module _ (old : Table) (sound : IsSound old) (none : wakes_left old ≡ []) wher
       → Follows call old (replies.Refused refusal) new
   refuses call refusal new names objects is state stands =
       subst (λ (s : List SemaphoreState). Matches (call state) (replies.Refused refusal) (thing_at new.names) new.last s) (sym objects)
-        (refused_follows stands.0 (thing_at new.names) sems state new.last (call state) refusal
-          (unchanged_table stands.0 at_old (thing_at new.names) sems state names stands.1)
-          (quiet_at stands.0 at_old sems state stands.1 quiet new.last)
-          (is stands.0 state stands.1))
+      (refused_follows stands.0 (thing_at new.names) sems state new.last (call state) refusal
+      (unchanged_table stands.0 at_old (thing_at new.names) sems state names stands.1)
+      (quiet_at stands.0 at_old sems state stands.1 quiet new.last)
+      (is stands.0 state stands.1))
 
   -- and the table is as sound as before
   pub still_sound : (new : Table) → ((n : List ℕ) → thing_at new.names n ≡ at_old n) → new.objects.items ≡ sems → IsSound new
   still_sound new names objects =
       sound_still old new sound (remains old new names objects)
-        (subst (λ (s : List SemaphoreState). OthersQuiet new.last s) (sym objects) (λ k s apart there. quiet k s there))
+      (subst (λ (s : List SemaphoreState). OthersQuiet new.last s) (sym objects) (λ k s apart there. quiet k s there))
 
   pub still_stays : (new : Table) → ((n : List ℕ) → thing_at new.names n ≡ at_old n) → new.objects.items ≡ sems → Stays old new
   still_stays new names objects = (remains old new names objects, no_wakes new objects ∙ sym none)
@@ -74,13 +73,16 @@ module _ (old : Table) (sound : IsSound old) (none : wakes_left old ≡ []) wher
       → ((names : ℕ → ℕ → Tag) (state : State) → StandsUnder names at_old sems state → Matches (call state) reply at_old place (slice_set sems place sem))
       → Follows call old reply new
   shows call reply new place sem there names objects does state stands =
-      let told = does stands.0 state stands.1 in
-      (told.0,
-       no_wakes new objects ∙ sym (ap wakes_of (at_set_same sems place sem sem there) ∙ quiet place sem there) ∙ told.1,
-       (told.2.0,
-        subst (λ (s : List SemaphoreState). StandsUnder told.2.0 (thing_at new.names) s (call state).state) (sym objects)
-          (unchanged_table told.2.0 at_old (thing_at new.names) sems (call state).state names
-            (subst (λ (s : List SemaphoreState). StandsUnder told.2.0 at_old s (call state).state) (set_itself sems place sem there) told.2.1))))
+      let told = does stands.0 state stands.1 in (
+        told.0,
+        no_wakes new objects ∙ sym (ap wakes_of (at_set_same sems place sem sem there) ∙ quiet place sem there) ∙ told.1,
+        (
+          told.2.0,
+          subst (λ (s : List SemaphoreState). StandsUnder told.2.0 (thing_at new.names) s (call state).state) (sym objects)
+              (unchanged_table told.2.0 at_old (thing_at new.names) sems (call state).state names
+              (subst (λ (s : List SemaphoreState). StandsUnder told.2.0 at_old s (call state).state) (set_itself sems place sem there) told.2.1)),
+        ),
+      )
 
   module _ (call : State → Outcome) (reply : Reply) (new : Table) (place : ℕ) (after : SemaphoreState)
       (objects : new.objects.items ≡ slice_set sems place after) (last : new.last ≡ place)
@@ -88,13 +90,13 @@ module _ (old : Table) (sound : IsSound old) (none : wakes_left old ≡ []) wher
     pub call_follows : Follows call old reply new
     call_follows state stands =
         subst (λ (s : List SemaphoreState). Matches (call state) reply (thing_at new.names) new.last s) (sym objects)
-          (subst (λ k. Matches (call state) reply (thing_at new.names) k (slice_set sems place after)) (sym last) (does stands.0 state stands.1))
+        (subst (λ k. Matches (call state) reply (thing_at new.names) k (slice_set sems place after)) (sym last) (does stands.0 state stands.1))
 
     pub call_sound : IsSound new
     call_sound =
         sound_after call old reply new sound call_follows
-          (subst (λ k. OthersQuiet k new.objects.items) (sym last)
-            (subst (λ (s : List SemaphoreState). OthersQuiet place s) (sym objects) (others_quiet sems place after quiet)))
+        (subst (λ k. OthersQuiet k new.objects.items) (sym last)
+        (subst (λ (s : List SemaphoreState). OthersQuiet place s) (sym objects) (others_quiet sems place after quiet)))
 
 -- a test that can't be true is false
 pub refuted : (b : Bool) → (b ≡ true → ⊥) → b ≡ false

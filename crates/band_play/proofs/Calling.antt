@@ -1,28 +1,26 @@
 -- A call of an object by its name follows the step of the state.
-use Rattle.std.proofs.Common.{◌≡◌, ℕ, ◌+◌, false, true, cond, List, [], ◌∷◌, Option, Some, None, Result, Ok, Err, refl, sym, ap, ◌∙◌, subst}
+use Rattle.std.proofs.Common.{◌≡◌, ℕ, ◌+◌, false, true, List, [], Option, Some, None, Ok, Err, refl, ap, ◌∙◌}
 use Rattle.std.specs.List.{slice_get, slice_set}
-use Rattle.band_balance.specs.Line.{entry_named, is_served, take_permits, give_back, available, drained, overflows, owes_too_much, total}
+use Rattle.band_balance.specs.Line.{is_served, take_permits, give_back, available, drained, overflows, owes_too_much, total}
 use Rattle.std.proofs.Common.{length}
 use Rattle.band_balance.specs.Object.{Object, Turn, Answer, Figures, try_for, release, reduce, drain, status, would_overflow, would_owe_too_much}
 use Rattle.band_balance.specs.Object as answers
 use Rattle.band_sem.specs.Semaphore.{SemaphoreState, IsLawful}
 use Rattle.band_sem.specs.declared.refusal.Refusal.{Refusal}
 use Rattle.band_sem.specs.declared.refusal.Refusal.TheVariants as refusals
-use Rattle.band_play.specs.declared.reply.Reply.{Reply}
 use Rattle.band_play.specs.declared.reply.Reply.TheVariants as replies
 use Rattle.band_play.specs.declared.thing.Thing.{Thing}
 use Rattle.band_play.specs.declared.thing.Thing.TheVariants as things
 use Rattle.band_play.specs.Names.{Updated}
 use Rattle.band_play.specs.State.{State, Named, Tag, permit_tag, standing}
 use Rattle.band_play.specs.Step.{Outcome, refused, after_turn, turn_of, turn_at, unless_taken, on_kind, with_semaphore, on_semaphore, calling, calling_semaphore, trying, releasing, reducing, draining, showing, reply_of}
-use Rattle.band_play.specs.Table.{StandsUnder, Stands, IsKnown}
+use Rattle.band_play.specs.Table.{StandsUnder}
 use Rattle.band_play.specs.Moves.{object_of}
 use Rattle.band_play.proofs.Lists.{cond_false, cond_true}
-use Rattle.band_play.proofs.Standing.{standing_is, standing_of}
+use Rattle.band_play.proofs.Standing.{standing_of}
 use Rattle.band_play.proofs.Asking.{tried_served}
-use Rattle.band_play.proofs.Follow.{Matches, by_turn, object_from, refused_follows, stands_as, there_for, kind_of, taken, unchanged_table}
-use Rattle.band_play.proofs.Turns.{TurnsTo}
-use Rattle.band_play.proofs.Numbers.{released_turn, reduced_turn, drained_turn, tried_in_vain, shown_turn, same_turn, same_overflow, same_debt}
+use Rattle.band_play.proofs.Follow.{Matches, by_turn, object_from, stands_as, there_for, kind_of, taken}
+use Rattle.band_play.proofs.Numbers.{released_turn, reduced_turn, drained_turn, tried_in_vain, shown_turn, same_overflow, same_debt}
 
 called_with : (o : Option Thing) (refusal : Refusal) (call : ℕ → Outcome) (state : State) → object_of o ≡ Err refusal → calling (standing_of o) call state ≡ refused refusal state
 called_with None refusal call state e = let same : refusals.Unknown ≡ refusal = cc in ap (λ r. refused r state) same
@@ -60,11 +58,11 @@ module _ (names : ℕ → ℕ → Tag) (table : List ℕ → Option Thing) (sems
         → Matches (releasing (standing of state) n state) replies.Done table place (slice_set sems place (record sem { line = give_back n sem.line }))
     release_follows n fits lawful =
         by_turn names table sems state place sem _ named answers.Done (release n named.object) _ replies.Done
-          (semaphore_at _
-            ∙ cond_false (would_overflow n named.object) (refused refusals.Overflow state) (turn_at place (release n) state) (same_overflow names table sems state place sem named stands at_sem at_named quiet n ∙ fits)
-            ∙ turned (release n))
-          (released_turn names table sems state place sem named stands at_sem at_named quiet n lawful)
-          at_sem refl
+        (semaphore_at _
+        ∙ cond_false (would_overflow n named.object) (refused refusals.Overflow state) (turn_at place (release n) state) (same_overflow names table sems state place sem named stands at_sem at_named quiet n ∙ fits)
+        ∙ turned (release n))
+        (released_turn names table sems state place sem named stands at_sem at_named quiet n lawful)
+        at_sem refl
 
     pub release_overflows : (n : ℕ) → overflows n sem.line sem.held ≡ true → releasing (standing of state) n state ≡ refused refusals.Overflow state
     release_overflows n over =
@@ -75,11 +73,11 @@ module _ (names : ℕ → ℕ → Tag) (table : List ℕ → Option Thing) (sems
         → Matches (reducing (standing of state) n state) replies.Done table place (slice_set sems place (record sem { line = take_permits n sem.line }))
     reduce_follows n fits lawful =
         by_turn names table sems state place sem _ named answers.Done (reduce n named.object) _ replies.Done
-          (semaphore_at _
-            ∙ cond_false (would_owe_too_much n named.object) (refused refusals.Debt state) (turn_at place (reduce n) state) (same_debt names table sems state place sem named stands at_sem at_named quiet n ∙ fits)
-            ∙ turned (reduce n))
-          (reduced_turn names table sems state place sem named stands at_sem at_named quiet n lawful)
-          at_sem refl
+        (semaphore_at _
+        ∙ cond_false (would_owe_too_much n named.object) (refused refusals.Debt state) (turn_at place (reduce n) state) (same_debt names table sems state place sem named stands at_sem at_named quiet n ∙ fits)
+        ∙ turned (reduce n))
+        (reduced_turn names table sems state place sem named stands at_sem at_named quiet n lawful)
+        at_sem refl
 
     pub reduce_owes : (n : ℕ) → owes_too_much n sem.line ≡ true → reducing (standing of state) n state ≡ refused refusals.Debt state
     reduce_owes n over =
@@ -90,9 +88,9 @@ module _ (names : ℕ → ℕ → Tag) (table : List ℕ → Option Thing) (sems
         → Matches (draining (standing of state) n state) (replies.Drained (drained n sem.line)) table place (slice_set sems place (record sem { line = take_permits (drained n sem.line) sem.line }))
     drain_follows n lawful =
         by_turn names table sems state place sem _ named (answers.Drained (drained n sem.line)) (drain n named.object) _ (replies.Drained (drained n sem.line))
-          (semaphore_at _ ∙ turned (drain n))
-          (drained_turn names table sems state place sem named stands at_sem at_named quiet n lawful)
-          at_sem refl
+        (semaphore_at _ ∙ turned (drain n))
+        (drained_turn names table sems state place sem named stands at_sem at_named quiet n lawful)
+        at_sem refl
 
     abbrev shown : Answer
     shown = Figures (available sem.line) sem.line.free (length sem.line.waiting) (total sem.line.granted) sem.held
@@ -100,9 +98,9 @@ module _ (names : ℕ → ℕ → Tag) (table : List ℕ → Option Thing) (sems
     pub status_follows : Matches (showing (standing of state) state) (reply_of shown) table place (slice_set sems place sem)
     status_follows =
         by_turn names table sems state place sem sem named shown (status named.object) _ (reply_of shown)
-          (calling_at of place (λ p. turn_at p status state) object ∙ turned status)
-          (shown_turn names table sems state place sem named stands at_sem at_named quiet)
-          at_sem refl
+        (calling_at of place (λ p. turn_at p status state) object ∙ turned status)
+        (shown_turn names table sems state place sem named stands at_sem at_named quiet)
+        at_sem refl
 
     trying_at : (made : List ℕ) (n : ℕ) (thing : Option Thing) → table made ≡ thing → trying (standing of state) made n state ≡ unless_taken (standing_of thing) (turn_at place (try_for (permit_tag made) n) state) state
     trying_at made n thing is = semaphore_at _ ∙ ap (λ s. unless_taken s (turn_at place (try_for (permit_tag made) n) state) state) (stands_as names table sems state stands made thing is)
@@ -115,14 +113,14 @@ module _ (names : ℕ → ℕ → Tag) (table : List ℕ → Option Thing) (sems
         → Matches (trying (standing of state) made n state) replies.Done table' place (slice_set sems place (record sem { line = take_permits n sem.line; held = sem.held + n }))
     try_follows table' made n absent served update lawful =
         by_turn names table' sems state place sem _ named answers.Done (try_for (permit_tag made) n named.object) _ replies.Done
-          (trying_at made n None absent ∙ turned (try_for (permit_tag made) n))
-          (tried_served names table table' made n 0 sems state place sem named stands at_sem at_named absent quiet served update lawful)
-          at_sem refl
+        (trying_at made n None absent ∙ turned (try_for (permit_tag made) n))
+        (tried_served names table table' made n 0 sems state place sem named stands at_sem at_named absent quiet served update lawful)
+        at_sem refl
 
     pub try_fails : (made : List ℕ) (n : ℕ) → table made ≡ None → is_served n sem.line ≡ false
         → Matches (trying (standing of state) made n state) replies.Nothing table place (slice_set sems place sem)
     try_fails made n absent waits =
         by_turn names table sems state place sem sem named answers.Nothing (try_for (permit_tag made) n named.object) _ replies.Nothing
-          (trying_at made n None absent ∙ turned (try_for (permit_tag made) n))
-          (tried_in_vain names table sems state place sem named stands at_sem at_named quiet made n waits)
-          at_sem refl
+        (trying_at made n None absent ∙ turned (try_for (permit_tag made) n))
+        (tried_in_vain names table sems state place sem named stands at_sem at_named quiet made n waits)
+        at_sem refl

@@ -1,12 +1,12 @@
 -- A call that changes no name: the requests and what is held stay as they are.
-use Rattle.std.proofs.Common.{◌≡◌, ℕ, ◌+◌, ◌==◌, Bool, true, false, cond, List, [], ◌∷◌, ◌++◌, map, Option, Some, None, refl, sym, ap, ap₂, ◌∙◌, subst, arith, length}
+use Rattle.std.proofs.Common.{◌≡◌, ℕ, ◌+◌, ◌==◌, Bool, false, List, [], map, Option, Some, None, refl, sym, ap, ap₂, ◌∙◌, subst, length}
 use Rattle.std.specs.Prelude.{ℤ, pos, ◌+ℤ◌, int_lt}
-use Rattle.std.specs.List.{AllByRecursion, slice_get, slice_set}
+use Rattle.std.specs.List.{slice_get, slice_set}
 use Rattle.std.proofs.lemmas.Bool.{false≢true, eqb-true}
 use Rattle.std.proofs.lemmas.Bool.Decides.{Decides-eqb}
 use Rattle.std.proofs.lemmas.List.{length-set, length-map}
-use Rattle.std.proofs.lemmas.Option.{none-some, same_Some}
-use Rattle.band_balance.specs.Line.{Entry, Waiting, Line, requests, rename, renamed, renamed_waiting, entry_named, total, is_served, u64_max, take_permits, give_back, available, drained, overflows, owes_too_much}
+use Rattle.std.proofs.lemmas.Option.{same_Some}
+use Rattle.band_balance.specs.Line.{Line, requests, rename, renamed, renamed_waiting, entry_named, total, is_served, u64_max, take_permits, give_back, available, drained, overflows, owes_too_much}
 use Rattle.band_balance.specs.Object.{Object, Turn, Answer, Done, Nothing, Drained, Figures, turn, release, reduce, drain, status, try_for, would_overflow, would_owe_too_much}
 use Rattle.band_balance.proofs.Rename.{is_served-rename, give_back-rename, available-rename, drained-rename, total-renamed}
 use Rattle.band_balance.proofs.Requests.{requests-give_back}
@@ -14,7 +14,7 @@ use Rattle.band_sem.specs.Semaphore.{SemaphoreState, is_slot, IsLawful}
 use Rattle.band_play.specs.declared.thing.Thing.{Thing}
 use Rattle.band_play.specs.declared.thing.Thing.TheVariants as things
 use Rattle.band_play.specs.State.{State, Named, Tag, permit_tag}
-use Rattle.band_play.specs.Table.{StandsAt, StandsUnder, IsKnown, request_at, quiet}
+use Rattle.band_play.specs.Table.{StandsAt, StandsUnder, IsKnown, quiet}
 use Rattle.band_play.proofs.Lists.{by_bool, at_set_same, at_set_other, cond_false}
 use Rattle.band_play.proofs.Turns.{TurnsTo, with_object, quieted, quiet_line}
 
@@ -53,36 +53,43 @@ module _ (names : ℕ → ℕ → Tag) (table : List ℕ → Option Thing) (sems
     each_there : (j : ℕ) (s : SemaphoreState) (o : Named) → slice_get (slice_set sems place sem') j ≡ Some s → slice_get (slice_set state place named') j ≡ Some o → StandsAt table (names j) j s o
     each_there j s o there_sem there_named =
         by_place j
-          (λ same.
-            let sem_is : sem' ≡ s = same_Some sem' s (sym (at_set_same sems place sem sem' at_sem) ∙ ap (slice_get (slice_set sems place sem')) (sym same) ∙ there_sem) in
-            let named_is : named' ≡ o = same_Some named' o (sym (at_set_same state place named named' at_named) ∙ ap (slice_get (slice_set state place named')) (sym same) ∙ there_named) in
-            subst (λ n. StandsAt table (names n) n s o) (sym same)
-              (subst (λ (x : SemaphoreState). StandsAt table (names place) place x o) sem_is
-                (subst (λ (x : Named). StandsAt table (names place) place sem' x) named_is at_place)))
-          (λ other. stands.each j s o (sym (at_set_other sems place j sem' other) ∙ there_sem) (sym (at_set_other state place j named' other) ∙ there_named))
+        (λ same.
+        let sem_is : sem' ≡ s = same_Some sem' s (sym (at_set_same sems place sem sem' at_sem) ∙ ap (slice_get (slice_set sems place sem')) (sym same) ∙ there_sem) in
+        let named_is : named' ≡ o = same_Some named' o (sym (at_set_same state place named named' at_named) ∙ ap (slice_get (slice_set state place named')) (sym same) ∙ there_named) in
+        subst (λ n. StandsAt table (names n) n s o) (sym same)
+        (subst (λ (x : SemaphoreState). StandsAt table (names place) place x o) sem_is
+        (subst (λ (x : Named). StandsAt table (names place) place sem' x) named_is at_place)))
+        (λ other. stands.each j s o (sym (at_set_other sems place j sem' other) ∙ there_sem) (sym (at_set_other state place j named' other) ∙ there_named))
 
     still_known : (n : List ℕ) (thing : Option Thing) → IsKnown names sems state n thing → IsKnown names (slice_set sems place sem') (slice_set state place named') n thing
     still_known n None is = tt
     still_known n (Some (things.Object j)) (o, there, called) =
         by_place j
-          (λ same.
-            let named_is : named ≡ o = same_Some named o (sym at_named ∙ ap (slice_get state) (sym same) ∙ there) in
-            (named', ap (slice_get (slice_set state place named')) same ∙ at_set_same state place named named' at_named, ap (λ (x : Named). x.name) named_is ∙ called))
-          (λ apart. (o, at_set_other state place j named' apart ∙ there, called))
+        (λ same.
+        let named_is : named ≡ o = same_Some named o (sym at_named ∙ ap (slice_get state) (sym same) ∙ there) in
+        (named', ap (slice_get (slice_set state place named')) same ∙ at_set_same state place named named' at_named, ap (λ (x : Named). x.name) named_is ∙ called))
+        (λ apart. (o, at_set_other state place j named' apart ∙ there, called))
     still_known n (Some (things.Request j request)) (s, slot, there, is, found, called) =
         by_place j
-          (λ same.
-            let sem_is : sem ≡ s = same_Some sem s (sym at_sem ∙ ap (slice_get sems) (sym same) ∙ there) in
-            (sem', slot, ap (slice_get (slice_set sems place sem')) same ∙ at_set_same sems place sem sem' at_sem, is,
-             ap (entry_named (is_slot slot)) (same_requests ∙ ap (λ (x : SemaphoreState). requests x.line) sem_is) ∙ found, called))
-          (λ apart. (s, slot, at_set_other sems place j sem' apart ∙ there, is, found, called))
+        (λ same.
+        let sem_is : sem ≡ s = same_Some sem s (sym at_sem ∙ ap (slice_get sems) (sym same) ∙ there) in (
+          sem',
+          slot,
+          ap (slice_get (slice_set sems place sem')) same ∙ at_set_same sems place sem sem' at_sem,
+          is,
+          ap (entry_named (is_slot slot)) (same_requests ∙ ap (λ (x : SemaphoreState). requests x.line) sem_is) ∙ found,
+          called,
+        ))
+        (λ apart. (s, slot, at_set_other sems place j sem' apart ∙ there, is, found, called))
     still_known n (Some (things.Permit permit)) (o, there, found) =
         by_place permit.of
-          (λ same.
-            let named_is : named ≡ o = same_Some named o (sym at_named ∙ ap (slice_get state) (sym same) ∙ there) in
-            (named', ap (slice_get (slice_set state place named')) same ∙ at_set_same state place named named' at_named,
-             ap (entry_named _) (held_is ∙ ap (λ (x : Named). x.object.held) named_is) ∙ found))
-          (λ apart. (o, at_set_other state place permit.of named' apart ∙ there, found))
+        (λ same.
+        let named_is : named ≡ o = same_Some named o (sym at_named ∙ ap (slice_get state) (sym same) ∙ there) in (
+          named',
+          ap (slice_get (slice_set state place named')) same ∙ at_set_same state place named named' at_named,
+          ap (entry_named _) (held_is ∙ ap (λ (x : Named). x.object.held) named_is) ∙ found,
+        ))
+        (λ apart. (o, at_set_other state place permit.of named' apart ∙ there, found))
 
     pub turns_still : (answer : Answer) → TurnsTo names table sems state place sem' named answer (turn answer object)
     turns_still answer = record {
@@ -112,12 +119,12 @@ module _ (names : ℕ → ℕ → Tag) (table : List ℕ → Option Thing) (sems
   pub released_turn : (n : ℕ) → IsLawful (give_back n sem.line) sem.held → TurnsTo names table sems state place (with_line (give_back n sem.line)) named Done (release n named.object)
   released_turn n lawful =
       turns_still names table sems state place sem (with_line (give_back n sem.line)) named stands at_sem at_named no_wakes (record named.object { line = give_back n named.object.line })
-        (ap (give_back n) same_line ∙ give_back-rename (names place) n sem.line) refl refl refl refl (requests-give_back n sem.line) lawful Done
+      (ap (give_back n) same_line ∙ give_back-rename (names place) n sem.line) refl refl refl refl (requests-give_back n sem.line) lawful Done
 
   pub reduced_turn : (n : ℕ) → IsLawful (take_permits n sem.line) sem.held → TurnsTo names table sems state place (with_line (take_permits n sem.line)) named Done (reduce n named.object)
   reduced_turn n lawful =
       turns_still names table sems state place sem (with_line (take_permits n sem.line)) named stands at_sem at_named no_wakes (record named.object { line = take_permits n named.object.line })
-        (ap (take_permits n) same_line) refl refl refl refl refl lawful Done
+      (ap (take_permits n) same_line) refl refl refl refl refl lawful Done
 
   same_drained : (n : ℕ) → drained n named.object.line ≡ drained n sem.line
   same_drained n = ap (drained n) same_line ∙ drained-rename (names place) n sem.line
@@ -126,9 +133,9 @@ module _ (names : ℕ → ℕ → Tag) (table : List ℕ → Option Thing) (sems
       → TurnsTo names table sems state place (with_line (take_permits (drained n sem.line) sem.line)) named (Drained (drained n sem.line)) (drain n named.object)
   drained_turn n lawful =
       subst (λ (k : ℕ). TurnsTo names table sems state place (with_line (take_permits (drained n sem.line) sem.line)) named (Drained (drained n sem.line)) (turn (Drained k) (record named.object { line = take_permits k named.object.line })))
-        (sym (same_drained n))
-        (turns_still names table sems state place sem (with_line (take_permits (drained n sem.line) sem.line)) named stands at_sem at_named no_wakes (record named.object { line = take_permits (drained n sem.line) named.object.line })
-          (ap (take_permits (drained n sem.line)) same_line) refl refl refl refl refl lawful (Drained (drained n sem.line)))
+      (sym (same_drained n))
+      (turns_still names table sems state place sem (with_line (take_permits (drained n sem.line) sem.line)) named stands at_sem at_named no_wakes (record named.object { line = take_permits (drained n sem.line) named.object.line })
+      (ap (take_permits (drained n sem.line)) same_line) refl refl refl refl refl lawful (Drained (drained n sem.line)))
 
   -- nothing changes
   pub same_turn : (answer : Answer) → TurnsTo names table sems state place sem named answer (turn answer named.object)
@@ -138,8 +145,8 @@ module _ (names : ℕ → ℕ → Tag) (table : List ℕ → Option Thing) (sems
   pub tried_in_vain : (made : List ℕ) (n : ℕ) → is_served n sem.line ≡ false → TurnsTo names table sems state place sem named Nothing (try_for (permit_tag made) n named.object)
   tried_in_vain made n waits =
       subst (λ (t : Turn Tag). TurnsTo names table sems state place sem named Nothing t)
-        (sym (cond_false (is_served n named.object.line) _ (turn Nothing named.object) (ap (is_served n) same_line ∙ is_served-rename (names place) n sem.line ∙ waits)))
-        (same_turn Nothing)
+      (sym (cond_false (is_served n named.object.line) _ (turn Nothing named.object) (ap (is_served n) same_line ∙ is_served-rename (names place) n sem.line ∙ waits)))
+      (same_turn Nothing)
 
   pub same_figures : Figures (available named.object.line) named.object.line.free (length named.object.line.waiting) (total named.object.line.granted) (total named.object.held)
       ≡ Figures (available sem.line) sem.line.free (length sem.line.waiting) (total sem.line.granted) sem.held
@@ -152,7 +159,7 @@ module _ (names : ℕ → ℕ → Tag) (table : List ℕ → Option Thing) (sems
   pub shown_turn : TurnsTo names table sems state place sem named (Figures (available sem.line) sem.line.free (length sem.line.waiting) (total sem.line.granted) sem.held) (status named.object)
   shown_turn =
       subst (λ (a : Answer). TurnsTo names table sems state place sem named (Figures (available sem.line) sem.line.free (length sem.line.waiting) (total sem.line.granted) sem.held) (turn a named.object))
-        (sym same_figures) (same_turn _)
+      (sym same_figures) (same_turn _)
 
   -- the refusals are the semaphore's
   abbrev overflows_at : ℕ → ℤ → ℕ → ℕ → Bool

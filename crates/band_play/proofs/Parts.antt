@@ -1,5 +1,5 @@
 -- A permit that is split, and two that are merged.
-use Rattle.std.proofs.Common.{◌≡◌, ℕ, ◌+◌, ◌-◌, ◌≤◌, ◌<◌, Bool, true, false, zero, suc, nat_le, List, [], ◌∷◌, Option, Some, None, refl, sym, ap, ◌∙◌, subst, arith}
+use Rattle.std.proofs.Common.{◌≡◌, ℕ, ◌+◌, ◌-◌, ◌≤◌, ◌<◌, true, false, zero, suc, nat_le, List, [], ◌∷◌, Option, Some, None, refl, sym, ap, ◌∙◌, subst, arith}
 use Rattle.std.specs.List.{AllByRecursion, slice_get, slice_set}
 use Rattle.std.specs.Str.{bytes_eq}
 use Rattle.std.proofs.lemmas.Int.{ints}
@@ -18,8 +18,8 @@ use Rattle.band_play.proofs.Standing.{same_bytes, bytes_same}
 use Rattle.band_play.proofs.Asking.{holding_turn}
 use Rattle.band_play.proofs.Numbers.{line_before, same_turn}
 use Rattle.band_play.proofs.Permits.{ended, resized}
-use Rattle.band_play.proofs.Resized.{found-resize, without-resize}
-use Rattle.band_play.proofs.Turns.{TurnsTo, with_object, quieted, tags_apart, quiet_line}
+use Rattle.band_play.proofs.Resized.{without-resize}
+use Rattle.band_play.proofs.Turns.{TurnsTo, with_object, quieted, tags_apart}
 
 -- fewer that are held are as lawful
 pub lawful_fewer : (line : Line ℕ) (held fewer : ℕ) → fewer ≤ held → IsLawful line held → IsLawful line fewer
@@ -68,8 +68,8 @@ module _ (names : ℕ → ℕ → Tag) (table mid table' : List ℕ → Option T
       woken = ap (λ (l : Line Tag). l.wakes) same_line;
       stands =
           subst (λ (ss : List SemaphoreState). StandsUnder names table' ss (slice_set state place (with_object named (quieted object_last)))) (set-set sems place first sem)
-            (subst (λ (os : State). StandsUnder names table' (slice_set (slice_set sems place first) place sem) os) (set-set state place named_first (with_object named (quieted object_last)))
-              last.stands);
+          (subst (λ (os : State). StandsUnder names table' (slice_set (slice_set sems place first) place sem) os) (set-set state place named_first (with_object named (quieted object_last)))
+          last.stands);
     }
 
   module _ (m made : List ℕ) (count n : ℕ) (enough : n ≤ count) (within : count ≤ sem.held)
@@ -105,11 +105,11 @@ module _ (names : ℕ → ℕ → Tag) (table mid table' : List ℕ → Option T
     pub splits : TurnsTo names table' sems state place sem named Done (split (is_tag m) (permit_tag made) n named.object)
     splits =
         subst (λ (o : Option (Entry Tag)). TurnsTo names table' sems state place sem named Done (split_of o (is_tag m) (permit_tag made) n named.object)) (sym own)
-          (subst (λ (t : Turn Tag). TurnsTo names table' sems state place sem named Done t)
-            (sym (cond_true (nat_le n count) (turn Done (record named.object { held = hold (permit_tag made) n fewer_held })) (turn Nothing named.object) (le-leb n count enough)))
-            (both fewer_sem fewer_held (hold (permit_tag made) n fewer_held) refl
-              (subst (λ (h : ℕ). TurnsTo names table' (slice_set sems place fewer_sem) (slice_set state place fewer_named) place (record sem { held = h }) fewer_named Done
-                (turn Done (record (quieted (record named.object { held = fewer_held })) { held = hold (permit_tag made) n fewer_held }))) back more)))
+        (subst (λ (t : Turn Tag). TurnsTo names table' sems state place sem named Done t)
+        (sym (cond_true (nat_le n count) (turn Done (record named.object { held = hold (permit_tag made) n fewer_held })) (turn Nothing named.object) (le-leb n count enough)))
+        (both fewer_sem fewer_held (hold (permit_tag made) n fewer_held) refl
+        (subst (λ (h : ℕ). TurnsTo names table' (slice_set sems place fewer_sem) (slice_set state place fewer_named) place (record sem { held = h }) fewer_named Done
+        (turn Done (record (quieted (record named.object { held = fewer_held })) { held = hold (permit_tag made) n fewer_held }))) back more)))
       where
         back : (sem.held - n) + n ≡ sem.held
         back = omega arith
@@ -119,9 +119,9 @@ module _ (names : ℕ → ℕ → Tag) (table mid table' : List ℕ → Option T
       → TurnsTo names table sems state place sem named Nothing (split (is_tag m) (permit_tag made) n named.object)
   too_few m made count n beyond own =
       subst (λ (o : Option (Entry Tag)). TurnsTo names table sems state place sem named Nothing (split_of o (is_tag m) (permit_tag made) n named.object)) (sym own)
-        (subst (λ (t : Turn Tag). TurnsTo names table sems state place sem named Nothing t)
-          (sym (cond_false (nat_le n count) (turn Done (record named.object { held = hold (permit_tag made) n (resize (is_tag m) (count - n) named.object.held) })) (turn Nothing named.object) (lt-leb n count beyond)))
-          (same_turn names table sems state place sem named stands at_sem at_named no_wakes Nothing))
+      (subst (λ (t : Turn Tag). TurnsTo names table sems state place sem named Nothing t)
+      (sym (cond_false (nat_le n count) (turn Done (record named.object { held = hold (permit_tag made) n (resize (is_tag m) (count - n) named.object.held) })) (turn Nothing named.object) (lt-leb n count beyond)))
+      (same_turn names table sems state place sem named stands at_sem at_named no_wakes Nothing))
 
   module _ (kept spent : List ℕ) (count other : ℕ) (apart : bytes_eq kept spent ≡ false) (within : other ≤ sem.held)
       (kept_there : mid kept ≡ Some (things.Permit (record { of = place; count = count })))
@@ -159,7 +159,7 @@ module _ (names : ℕ → ℕ → Tag) (table mid table' : List ℕ → Option T
     pub merges : TurnsTo names table' sems state place sem named Done (merge (is_tag kept) (is_tag spent) named.object)
     merges =
         subst (λ (o : Option (Entry Tag)). TurnsTo names table' sems state place sem named Done (merge_of o (entry_named (is_tag spent) named.object.held) (is_tag kept) (is_tag spent) named.object)) (sym own)
-          (subst (λ (o : Option (Entry Tag)). TurnsTo names table' sems state place sem named Done (merge_of (Some (record { name = permit_tag kept; size = count })) o (is_tag kept) (is_tag spent) named.object)) (sym own_spent)
-            (subst (λ (h : List (Entry Tag)). TurnsTo names table' sems state place sem named Done (turn Done (record named.object { held = h })))
-              (sym (without-resize (is_tag kept) (is_tag spent) (count + other) named.object.held apart_held))
-              (both less_sem less_held (resize (is_tag kept) (count + other) less_held) refl grown)))
+        (subst (λ (o : Option (Entry Tag)). TurnsTo names table' sems state place sem named Done (merge_of (Some (record { name = permit_tag kept; size = count })) o (is_tag kept) (is_tag spent) named.object)) (sym own_spent)
+        (subst (λ (h : List (Entry Tag)). TurnsTo names table' sems state place sem named Done (turn Done (record named.object { held = h })))
+        (sym (without-resize (is_tag kept) (is_tag spent) (count + other) named.object.held apart_held))
+        (both less_sem less_held (resize (is_tag kept) (count + other) less_held) refl grown)))

@@ -65,7 +65,7 @@ module _ (names : ℕ → ℕ → Tag) (table table' : List ℕ → Option Thing
   others_held : (w : Option Thing) → Updated table table' m w → AllByRecursion (λ (e : Entry Tag). table' e.name.name ≡ Some (permit_at place e)) (without (is_tag m) named.object.held)
   others_held w update =
       all_weaker _ _ (λ (e : Entry Tag) h. update.others e.name.name h.1 ∙ h.0) (without (is_tag m) named.object.held)
-        (others_stay (λ (a b : Tag). bytes_eq a.name b.name) (is_tag m) (tags_one m) _ named.object.held here.each_held here.held_once)
+      (others_stay (λ (a b : Tag). bytes_eq a.name b.name) (is_tag m) (tags_one m) _ named.object.held here.each_held here.held_once)
 
   -- the permit ends, and the line becomes another with the same requests
   module _ (after : Line ℕ) (after_named : Line Tag) (renamed : after_named ≡ rename (names place) after) (same_requests : requests after ≡ requests sem.line)
@@ -79,24 +79,24 @@ module _ (names : ℕ → ℕ → Tag) (table table' : List ℕ → Option Thing
     pub ended : TurnsTo names table' sems state place ended_sem named Done (turn Done ended_object)
     ended =
         turns_to names names table table' m None sems state place sem ended_sem named ended_object stands update at_sem at_named same_names nowhere not_object
-          renamed refl refl left lawful
-          (rw same_requests (requests_stay None update))
-          (others_held None update)
-          (once_without (λ (a b : Tag). bytes_eq a.name b.name) (is_tag m) named.object.held here.held_once)
-          (record {
-            name = refl;
-            request = λ n s e other found named_n. (ap (entry_named (is_slot s)) same_requests ∙ found, named_n);
-            permit = λ n e other found. entry_named-without_other (is_tag m) (is_tag n) named.object.held (tags_apart m n named.object.held other) ∙ found;
-          })
-          tt
-          Done
+        renamed refl refl left lawful
+        (rw same_requests (requests_stay None update))
+        (others_held None update)
+        (once_without (λ (a b : Tag). bytes_eq a.name b.name) (is_tag m) named.object.held here.held_once)
+        (record {
+          name = refl;
+          request = λ n s e other found named_n. (ap (entry_named (is_slot s)) same_requests ∙ found, named_n);
+          permit = λ n e other found. entry_named-without_other (is_tag m) (is_tag n) named.object.held (tags_apart m n named.object.held other) ∙ found;
+        })
+        tt
+        Done
 
   pub dropped_permit : Updated table table' m None → IsLawful (give_back count sem.line) (sem.held - count)
       → TurnsTo names table' sems state place (record sem { line = give_back count sem.line; held = sem.held - count }) named Done (drop (is_tag m) named.object)
   dropped_permit update lawful =
       subst (λ (o : Option (Entry Tag)). TurnsTo names table' sems state place (record sem { line = give_back count sem.line; held = sem.held - count }) named Done (drop_of o (is_tag m) named.object))
-        (sym own)
-        (ended (give_back count sem.line) (give_back count named.object.line) (ap (give_back count) line_before ∙ give_back-rename (names place) count sem.line) (requests-give_back count sem.line) update lawful)
+      (sym own)
+      (ended (give_back count sem.line) (give_back count named.object.line) (ap (give_back count) line_before ∙ give_back-rename (names place) count sem.line) (requests-give_back count sem.line) update lawful)
 
   pub forgotten_permit : Updated table table' m None → IsLawful sem.line (sem.held - count) → TurnsTo names table' sems state place (record sem { held = sem.held - count }) named Done (forget (is_tag m) named.object)
   forgotten_permit update lawful = ended sem.line named.object.line line_before refl update lawful
@@ -118,14 +118,14 @@ module _ (names : ℕ → ℕ → Tag) (table table' : List ℕ → Option Thing
     pub resized : TurnsTo names table' sems state place resized_sem named Done (turn Done resized_object)
     resized =
         turns_to names names table table' m _ sems state place sem resized_sem named resized_object stands update at_sem at_named same_names nowhere not_object
-          line_before refl refl whole lawful
-          (requests_stay _ update)
-          (all-resize (is_tag m) size (λ (e : Entry Tag). table' e.name.name ≡ Some (permit_at place e)) named.object.held (λ e is. update.here e.name.name is) (others_held _ update))
-          (rw (names-resize (is_tag m) size named.object.held) here.held_once)
-          (record {
-            name = refl;
-            request = λ n s e other found named_n. (found, named_n);
-            permit = λ n e other found. other-resize (is_tag m) (is_tag n) size named.object.held (tags_apart m n named.object.held other) ∙ found;
-          })
-          (with_object named (quieted resized_object), at_set_same state place named (with_object named (quieted resized_object)) at_named, found-resize (is_tag m) size named.object.held (record { name = permit_tag m; size = count }) own)
-          Done
+        line_before refl refl whole lawful
+        (requests_stay _ update)
+        (all-resize (is_tag m) size (λ (e : Entry Tag). table' e.name.name ≡ Some (permit_at place e)) named.object.held (λ e is. update.here e.name.name is) (others_held _ update))
+        (rw (names-resize (is_tag m) size named.object.held) here.held_once)
+        (record {
+          name = refl;
+          request = λ n s e other found named_n. (found, named_n);
+          permit = λ n e other found. other-resize (is_tag m) (is_tag n) size named.object.held (tags_apart m n named.object.held other) ∙ found;
+        })
+        (with_object named (quieted resized_object), at_set_same state place named (with_object named (quieted resized_object)) at_named, found-resize (is_tag m) size named.object.held (record { name = permit_tag m; size = count }) own)
+        Done

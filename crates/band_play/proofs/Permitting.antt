@@ -1,7 +1,6 @@
 -- A call of a permit by its name follows the step of the state.
-use Rattle.std.proofs.Common.{◌≡◌, ℕ, ◌-◌, ◌≤◌, List, [], ◌∷◌, Option, Some, None, Result, Ok, Err, refl, sym, ap, ◌∙◌, subst}
+use Rattle.std.proofs.Common.{◌≡◌, ℕ, ◌-◌, ◌≤◌, List, [], Option, Some, None, Ok, Err, refl, ap, ◌∙◌, subst}
 use Rattle.std.specs.List.{slice_get, slice_set}
-use Rattle.band_balance.specs.Line.{entry_named}
 use Rattle.band_balance.specs.Object.{Object, Turn, forget}
 use Rattle.band_balance.specs.Object as answers
 use Rattle.band_sem.specs.Semaphore.{SemaphoreState, IsLawful}
@@ -12,7 +11,7 @@ use Rattle.band_play.specs.declared.reply.Reply.TheVariants as replies
 use Rattle.band_play.specs.declared.thing.Thing.{Thing}
 use Rattle.band_play.specs.declared.thing.Thing.TheVariants as things
 use Rattle.band_play.specs.Names.{Updated}
-use Rattle.band_play.specs.State.{State, Named, Tag, is_tag, permit_tag, standing}
+use Rattle.band_play.specs.State.{State, Named, Tag, is_tag, standing}
 use Rattle.band_play.specs.Step.{Outcome, refused, turn_of, turn_at, on_kind, with_semaphore, on_permit, forgetting}
 use Rattle.band_play.specs.Table.{StandsUnder, IsKnown}
 use Rattle.band_play.specs.Moves.{permit_of, FitsPermit}
@@ -61,6 +60,6 @@ module _ (names : ℕ → ℕ → Tag) (table : List ℕ → Option Thing) (sems
         → Matches (forgetting (standing name state) name state) replies.Done table' permit.of (slice_set sems permit.of (record sem { held = sem.held - permit.count }))
     forget_follows table' update lawful =
         by_turn names table' sems state permit.of sem _ named answers.Done (forget (is_tag name) named.object) _ replies.Done
-          (permit_at (λ place. turn_at place (forget (is_tag name)) state) ∙ ap (λ o. turn_of o permit.of (forget (is_tag name)) state) at_named)
-          (forgotten_permit names table table' name sems state permit.of sem named permit.count stands at_sem at_named is known.2 quiet update lawful)
-          at_sem refl
+        (permit_at (λ place. turn_at place (forget (is_tag name)) state) ∙ ap (λ o. turn_of o permit.of (forget (is_tag name)) state) at_named)
+        (forgotten_permit names table table' name sems state permit.of sem named permit.count stands at_sem at_named is known.2 quiet update lawful)
+        at_sem refl

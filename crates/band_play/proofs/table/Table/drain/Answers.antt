@@ -1,31 +1,23 @@
-use Rattle.std.proofs.Common.{◌≡◌, Some, Ok, Err, true, false, refl, sym, ap, ◌∙◌, subst, arith, List, ℕ}
+use Rattle.std.proofs.Common.{◌≡◌, Some, refl, sym, ap, ◌∙◌, subst, arith, ℕ}
 use Rattle.std.specs.List.{slice_get, slice_set}
 use Rattle.std.specs.Vec.{with_item}
 use Rattle.std.proofs.lemmas.Option.{slice_get_read}
-use Rattle.std.proofs.lemmas.Bool.{false≢true}
-use Rattle.band_balance.specs.Line.{take_permits, give_back, drained, owes_too_much, is_served}
+use Rattle.band_balance.specs.Line.{take_permits, drained}
 use Rattle.band_sem.specs.Semaphore.{SemaphoreState, IsLawful}
-use Rattle.band_sem.specs.declared.errors.ReduceError.TheVariants.{Debt}
-use Rattle.band_sem.specs.declared.refusal.Refusal.TheVariants as refusals
-use Rattle.band_play.specs.declared.reply.Reply.{Reply}
 use Rattle.band_play.specs.declared.reply.Reply.TheVariants as replies
-use Rattle.band_play.specs.declared.thing.Thing.{Thing}
-use Rattle.band_play.specs.declared.thing.Thing.TheVariants as things
-use Rattle.band_play.specs.Names.{Updated, thing_at}
-use Rattle.band_play.specs.State.{State, Tag, standing}
-use Rattle.band_play.specs.Step.{reducing, draining, showing, trying}
-use Rattle.band_play.specs.Table.{StandsUnder}
-use Rattle.band_play.proofs.Called.{ok_no_err, refuses, shows, still_sound, still_stays, call_follows, call_sound, quiet_there, refuted, set_itself}
-use Rattle.band_play.proofs.Calling.{calling_refused, reduce_follows, reduce_owes, drain_follows, status_follows, try_taken, try_follows, try_fails}
-use Rattle.band_play.proofs.Follow.{Matches, same_table}
-use Rattle.band_play.proofs.Sound.{object_in, numbered_in}
-use Rattle.band_play.proofs.TableLemmas.{some_of, none_from, updated_twice, same_names, stays, sound_same, on_err}
+use Rattle.band_play.specs.Names.{thing_at}
+use Rattle.band_play.specs.State.{standing}
+use Rattle.band_play.specs.Step.{draining}
+use Rattle.band_play.proofs.Called.{refuses, call_follows, call_sound, quiet_there}
+use Rattle.band_play.proofs.Calling.{calling_refused, drain_follows}
+use Rattle.band_play.proofs.Follow.{Matches}
+use Rattle.band_play.proofs.Sound.{object_in}
 use Rattle.band_play.proofs.table.Table.drain.Goals as goal
 
 pub returns-in-Err-clause-follows : goal.returns-in-Err-clause-follows
 returns-in-Err-clause-follows c =
     refuses c.args.self.now c.requires.sound c.requires.quiet (λ state. draining (standing c.args.of.now state) c.args.n state) c.in-Err.refusal c.args.self.now (λ n. refl) refl
-      (λ names state stands. calling_refused names _ _ state stands c.args.of.now c.in-Err.refusal _ (sym c.object_at.ensures ∙ c.in-Err.is))
+    (λ names state stands. calling_refused names _ _ state stands c.args.of.now c.in-Err.refusal _ (sym c.object_at.ensures ∙ c.in-Err.is))
 
 pub index_mut-semaphore-requires : goal.index_mut-semaphore-requires
 index_mut-semaphore-requires c =
@@ -41,13 +33,13 @@ returns-clause-follows c =
     let count : c.drain_permits.result ≡ drained c.args.n sem.line = c.drain_permits.ensures.count in
     let after : c.drain_permits.new.self ≡ record sem { line = take_permits (drained c.args.n sem.line) sem.line } = c.drain_permits.ensures.state ∙ ap (λ (k : ℕ). record sem { line = take_permits k sem.line }) count in
     call_follows c.args.self.now c.requires.sound c.requires.quiet (λ state. draining (standing c.args.of.now state) c.args.n state) (replies.Drained c.drain_permits.result)
-      (record { names = c.args.self.now.names; objects = with_item c.args.self.now.objects c.in-Ok.place c.drain_permits.new.self; last = c.in-Ok.place })
-      c.in-Ok.place (record sem { line = take_permits (drained c.args.n sem.line) sem.line })
-      (ap (slice_set c.args.self.now.objects.items c.in-Ok.place) after) refl
-      (λ names state stands.
-        subst (λ (k : ℕ). Matches (draining (standing c.args.of.now state) c.args.n state) (replies.Drained k) (thing_at c.args.self.now.names) c.in-Ok.place (slice_set c.args.self.now.objects.items c.in-Ok.place (record sem { line = take_permits (drained c.args.n sem.line) sem.line }))) (sym count)
-          (drain_follows names _ _ state stands c.args.of.now c.in-Ok.place sem object there (quiet_there c.args.self.now c.requires.sound c.requires.quiet c.in-Ok.place sem there) c.args.n
-            (subst (λ (s : SemaphoreState). IsLawful s.line s.held) after c.drain_permits.ensures.lawful)))
+    (record { names = c.args.self.now.names; objects = with_item c.args.self.now.objects c.in-Ok.place c.drain_permits.new.self; last = c.in-Ok.place })
+    c.in-Ok.place (record sem { line = take_permits (drained c.args.n sem.line) sem.line })
+    (ap (slice_set c.args.self.now.objects.items c.in-Ok.place) after) refl
+    (λ names state stands.
+    subst (λ (k : ℕ). Matches (draining (standing c.args.of.now state) c.args.n state) (replies.Drained k) (thing_at c.args.self.now.names) c.in-Ok.place (slice_set c.args.self.now.objects.items c.in-Ok.place (record sem { line = take_permits (drained c.args.n sem.line) sem.line }))) (sym count)
+    (drain_follows names _ _ state stands c.args.of.now c.in-Ok.place sem object there (quiet_there c.args.self.now c.requires.sound c.requires.quiet c.in-Ok.place sem there) c.args.n
+    (subst (λ (s : SemaphoreState). IsLawful s.line s.held) after c.drain_permits.ensures.lawful)))
 
 pub returns-clause-sound : goal.returns-clause-sound
 returns-clause-sound c =
@@ -58,11 +50,10 @@ returns-clause-sound c =
     let count : c.drain_permits.result ≡ drained c.args.n sem.line = c.drain_permits.ensures.count in
     let after : c.drain_permits.new.self ≡ record sem { line = take_permits (drained c.args.n sem.line) sem.line } = c.drain_permits.ensures.state ∙ ap (λ (k : ℕ). record sem { line = take_permits k sem.line }) count in
     call_sound c.args.self.now c.requires.sound c.requires.quiet (λ state. draining (standing c.args.of.now state) c.args.n state) (replies.Drained c.drain_permits.result)
-      (record { names = c.args.self.now.names; objects = with_item c.args.self.now.objects c.in-Ok.place c.drain_permits.new.self; last = c.in-Ok.place })
-      c.in-Ok.place (record sem { line = take_permits (drained c.args.n sem.line) sem.line })
-      (ap (slice_set c.args.self.now.objects.items c.in-Ok.place) after) refl
-      (λ names state stands.
-        subst (λ (k : ℕ). Matches (draining (standing c.args.of.now state) c.args.n state) (replies.Drained k) (thing_at c.args.self.now.names) c.in-Ok.place (slice_set c.args.self.now.objects.items c.in-Ok.place (record sem { line = take_permits (drained c.args.n sem.line) sem.line }))) (sym count)
-          (drain_follows names _ _ state stands c.args.of.now c.in-Ok.place sem object there (quiet_there c.args.self.now c.requires.sound c.requires.quiet c.in-Ok.place sem there) c.args.n
-            (subst (λ (s : SemaphoreState). IsLawful s.line s.held) after c.drain_permits.ensures.lawful)))
-
+    (record { names = c.args.self.now.names; objects = with_item c.args.self.now.objects c.in-Ok.place c.drain_permits.new.self; last = c.in-Ok.place })
+    c.in-Ok.place (record sem { line = take_permits (drained c.args.n sem.line) sem.line })
+    (ap (slice_set c.args.self.now.objects.items c.in-Ok.place) after) refl
+    (λ names state stands.
+    subst (λ (k : ℕ). Matches (draining (standing c.args.of.now state) c.args.n state) (replies.Drained k) (thing_at c.args.self.now.names) c.in-Ok.place (slice_set c.args.self.now.objects.items c.in-Ok.place (record sem { line = take_permits (drained c.args.n sem.line) sem.line }))) (sym count)
+    (drain_follows names _ _ state stands c.args.of.now c.in-Ok.place sem object there (quiet_there c.args.self.now c.requires.sound c.requires.quiet c.in-Ok.place sem there) c.args.n
+    (subst (λ (s : SemaphoreState). IsLawful s.line s.held) after c.drain_permits.ensures.lawful)))

@@ -1,31 +1,23 @@
-use Rattle.std.proofs.Common.{◌≡◌, Some, Ok, Err, true, false, refl, sym, ap, ◌∙◌, subst, arith, List, ℕ}
+use Rattle.std.proofs.Common.{◌≡◌, Some, Err, refl, sym, ap, ◌∙◌, subst, arith}
 use Rattle.std.specs.List.{slice_get, slice_set}
 use Rattle.std.specs.Vec.{with_item}
 use Rattle.std.proofs.lemmas.Option.{slice_get_read}
-use Rattle.std.proofs.lemmas.Bool.{false≢true}
-use Rattle.band_balance.specs.Line.{take_permits, give_back, drained, owes_too_much, is_served}
+use Rattle.band_balance.specs.Line.{take_permits, owes_too_much}
 use Rattle.band_sem.specs.Semaphore.{SemaphoreState, IsLawful}
 use Rattle.band_sem.specs.declared.errors.ReduceError.TheVariants.{Debt}
 use Rattle.band_sem.specs.declared.refusal.Refusal.TheVariants as refusals
-use Rattle.band_play.specs.declared.reply.Reply.{Reply}
 use Rattle.band_play.specs.declared.reply.Reply.TheVariants as replies
-use Rattle.band_play.specs.declared.thing.Thing.{Thing}
-use Rattle.band_play.specs.declared.thing.Thing.TheVariants as things
-use Rattle.band_play.specs.Names.{Updated, thing_at}
-use Rattle.band_play.specs.State.{State, Tag, standing}
-use Rattle.band_play.specs.Step.{reducing, draining, showing, trying}
-use Rattle.band_play.specs.Table.{StandsUnder}
-use Rattle.band_play.proofs.Called.{ok_no_err, refuses, shows, still_sound, still_stays, call_follows, call_sound, quiet_there, refuted, set_itself}
-use Rattle.band_play.proofs.Calling.{calling_refused, reduce_follows, reduce_owes, drain_follows, status_follows, try_taken, try_follows, try_fails}
-use Rattle.band_play.proofs.Follow.{Matches, same_table}
-use Rattle.band_play.proofs.Sound.{object_in, numbered_in}
-use Rattle.band_play.proofs.TableLemmas.{some_of, none_from, updated_twice, same_names, stays, sound_same, on_err}
+use Rattle.band_play.specs.State.{standing}
+use Rattle.band_play.specs.Step.{reducing}
+use Rattle.band_play.proofs.Called.{ok_no_err, refuses, still_sound, still_stays, call_follows, call_sound, quiet_there, refuted, set_itself}
+use Rattle.band_play.proofs.Calling.{calling_refused, reduce_follows, reduce_owes}
+use Rattle.band_play.proofs.Sound.{object_in}
 use Rattle.band_play.proofs.table.Table.reduce.Goals as goal
 
 pub returns-in-Err-clause-follows : goal.returns-in-Err-clause-follows
 returns-in-Err-clause-follows g c =
     refuses c.args.self.now c.requires.sound c.requires.quiet (λ state. reducing (standing c.args.of.now state) c.args.n state) c.in-Err.refusal c.args.self.now (λ n. refl) refl
-      (λ names state stands. calling_refused names _ _ state stands c.args.of.now c.in-Err.refusal _ (sym c.object_at.ensures ∙ c.in-Err.is))
+    (λ names state stands. calling_refused names _ _ state stands c.args.of.now c.in-Err.refusal _ (sym c.object_at.ensures ∙ c.in-Err.is))
 
 pub index_mut-semaphore-requires : goal.index_mut-semaphore-requires
 index_mut-semaphore-requires g c =
@@ -39,12 +31,12 @@ returns-in-Ok-reduce_permits-clause-follows g c =
     let within = object_in c.args.self.now c.args.of.now c.in-Ok.place c.requires.sound object in
     let there : slice_get c.args.self.now.objects.items c.in-Ok.place ≡ Some sem = slice_get_read c.args.self.now.objects.items _ c.in-Ok.place sem refl within c.index_mut-semaphore.ensures.value in
     call_follows c.args.self.now c.requires.sound c.requires.quiet (λ state. reducing (standing c.args.of.now state) c.args.n state) replies.Done
-      (record { names = c.args.self.now.names; objects = with_item c.args.self.now.objects c.in-Ok.place c.reduce_permits.new.self; last = c.in-Ok.place })
-      c.in-Ok.place (record sem { line = take_permits c.args.n sem.line })
-      (ap (slice_set c.args.self.now.objects.items c.in-Ok.place) c.in-Ok-reduce_permits.ensures.ok) refl
-      (λ names state stands. reduce_follows names _ _ state stands c.args.of.now c.in-Ok.place sem object there (quiet_there c.args.self.now c.requires.sound c.requires.quiet c.in-Ok.place sem there) c.args.n
-        (refuted (owes_too_much c.args.n sem.line) (λ over. ok_no_err c.reduce_permits.result _ Debt c.in-Ok-reduce_permits.is (c.reduce_permits.ensures.debt.1 over)))
-        (subst (λ (s : SemaphoreState). IsLawful s.line s.held) c.in-Ok-reduce_permits.ensures.ok c.reduce_permits.ensures.lawful))
+    (record { names = c.args.self.now.names; objects = with_item c.args.self.now.objects c.in-Ok.place c.reduce_permits.new.self; last = c.in-Ok.place })
+    c.in-Ok.place (record sem { line = take_permits c.args.n sem.line })
+    (ap (slice_set c.args.self.now.objects.items c.in-Ok.place) c.in-Ok-reduce_permits.ensures.ok) refl
+    (λ names state stands. reduce_follows names _ _ state stands c.args.of.now c.in-Ok.place sem object there (quiet_there c.args.self.now c.requires.sound c.requires.quiet c.in-Ok.place sem there) c.args.n
+    (refuted (owes_too_much c.args.n sem.line) (λ over. ok_no_err c.reduce_permits.result _ Debt c.in-Ok-reduce_permits.is (c.reduce_permits.ensures.debt.1 over)))
+    (subst (λ (s : SemaphoreState). IsLawful s.line s.held) c.in-Ok-reduce_permits.ensures.ok c.reduce_permits.ensures.lawful))
 
 pub returns-in-Ok-reduce_permits-clause-sound : goal.returns-in-Ok-reduce_permits-clause-sound
 returns-in-Ok-reduce_permits-clause-sound g c =
@@ -53,12 +45,12 @@ returns-in-Ok-reduce_permits-clause-sound g c =
     let within = object_in c.args.self.now c.args.of.now c.in-Ok.place c.requires.sound object in
     let there : slice_get c.args.self.now.objects.items c.in-Ok.place ≡ Some sem = slice_get_read c.args.self.now.objects.items _ c.in-Ok.place sem refl within c.index_mut-semaphore.ensures.value in
     call_sound c.args.self.now c.requires.sound c.requires.quiet (λ state. reducing (standing c.args.of.now state) c.args.n state) replies.Done
-      (record { names = c.args.self.now.names; objects = with_item c.args.self.now.objects c.in-Ok.place c.reduce_permits.new.self; last = c.in-Ok.place })
-      c.in-Ok.place (record sem { line = take_permits c.args.n sem.line })
-      (ap (slice_set c.args.self.now.objects.items c.in-Ok.place) c.in-Ok-reduce_permits.ensures.ok) refl
-      (λ names state stands. reduce_follows names _ _ state stands c.args.of.now c.in-Ok.place sem object there (quiet_there c.args.self.now c.requires.sound c.requires.quiet c.in-Ok.place sem there) c.args.n
-        (refuted (owes_too_much c.args.n sem.line) (λ over. ok_no_err c.reduce_permits.result _ Debt c.in-Ok-reduce_permits.is (c.reduce_permits.ensures.debt.1 over)))
-        (subst (λ (s : SemaphoreState). IsLawful s.line s.held) c.in-Ok-reduce_permits.ensures.ok c.reduce_permits.ensures.lawful))
+    (record { names = c.args.self.now.names; objects = with_item c.args.self.now.objects c.in-Ok.place c.reduce_permits.new.self; last = c.in-Ok.place })
+    c.in-Ok.place (record sem { line = take_permits c.args.n sem.line })
+    (ap (slice_set c.args.self.now.objects.items c.in-Ok.place) c.in-Ok-reduce_permits.ensures.ok) refl
+    (λ names state stands. reduce_follows names _ _ state stands c.args.of.now c.in-Ok.place sem object there (quiet_there c.args.self.now c.requires.sound c.requires.quiet c.in-Ok.place sem there) c.args.n
+    (refuted (owes_too_much c.args.n sem.line) (λ over. ok_no_err c.reduce_permits.result _ Debt c.in-Ok-reduce_permits.is (c.reduce_permits.ensures.debt.1 over)))
+    (subst (λ (s : SemaphoreState). IsLawful s.line s.held) c.in-Ok-reduce_permits.ensures.ok c.reduce_permits.ensures.lawful))
 
 pub returns-in-Err-Debt-clause-follows : goal.returns-in-Err-Debt-clause-follows
 returns-in-Err-Debt-clause-follows g c =
@@ -67,10 +59,10 @@ returns-in-Err-Debt-clause-follows g c =
     let within = object_in c.args.self.now c.args.of.now c.in-Ok.place c.requires.sound object in
     let there : slice_get c.args.self.now.objects.items c.in-Ok.place ≡ Some sem = slice_get_read c.args.self.now.objects.items _ c.in-Ok.place sem refl within c.index_mut-semaphore.ensures.value in
     refuses c.args.self.now c.requires.sound c.requires.quiet (λ state. reducing (standing c.args.of.now state) c.args.n state) refusals.Debt
-      (record { names = c.args.self.now.names; objects = with_item c.args.self.now.objects c.in-Ok.place c.reduce_permits.new.self; last = c.in-Ok.place })
-      (λ n. refl) (ap (slice_set c.args.self.now.objects.items c.in-Ok.place) c.in-Err-Debt.ensures.err ∙ set_itself c.args.self.now.objects.items c.in-Ok.place sem there)
-      (λ names state stands. reduce_owes names _ _ state stands c.args.of.now c.in-Ok.place sem object there (quiet_there c.args.self.now c.requires.sound c.requires.quiet c.in-Ok.place sem there) c.args.n
-        (c.reduce_permits.ensures.debt.0 (c.in-Err-Debt.is ∙ ap Err c.in-Err-Debt.field-0-is)))
+    (record { names = c.args.self.now.names; objects = with_item c.args.self.now.objects c.in-Ok.place c.reduce_permits.new.self; last = c.in-Ok.place })
+    (λ n. refl) (ap (slice_set c.args.self.now.objects.items c.in-Ok.place) c.in-Err-Debt.ensures.err ∙ set_itself c.args.self.now.objects.items c.in-Ok.place sem there)
+    (λ names state stands. reduce_owes names _ _ state stands c.args.of.now c.in-Ok.place sem object there (quiet_there c.args.self.now c.requires.sound c.requires.quiet c.in-Ok.place sem there) c.args.n
+    (c.reduce_permits.ensures.debt.0 (c.in-Err-Debt.is ∙ ap Err c.in-Err-Debt.field-0-is)))
 
 pub returns-in-Err-Debt-clause-sound : goal.returns-in-Err-Debt-clause-sound
 returns-in-Err-Debt-clause-sound g c =

@@ -1,4 +1,4 @@
-use Rattle.std.proofs.Common.{◌≡◌, Some, Err, true, false, refl, sym, ap, ◌∙◌, subst, arith, List, ℕ}
+use Rattle.std.proofs.Common.{◌≡◌, Some, Err, refl, sym, ap, ◌∙◌, subst, arith}
 use Rattle.std.specs.List.{slice_get, slice_set}
 use Rattle.std.specs.Vec.{with_item}
 use Rattle.std.proofs.lemmas.Option.{slice_get_read}
@@ -17,7 +17,7 @@ use Rattle.band_play.proofs.table.Table.release.Goals as goal
 pub returns-in-Err-clause-follows : goal.returns-in-Err-clause-follows
 returns-in-Err-clause-follows g c =
     refuses c.args.self.now c.requires.sound c.requires.quiet (λ state. releasing (standing c.args.of.now state) c.args.n state) c.in-Err.refusal c.args.self.now (λ n. refl) refl
-      (λ names state stands. calling_refused names _ _ state stands c.args.of.now c.in-Err.refusal _ (sym c.object_at.ensures ∙ c.in-Err.is))
+    (λ names state stands. calling_refused names _ _ state stands c.args.of.now c.in-Err.refusal _ (sym c.object_at.ensures ∙ c.in-Err.is))
 
 pub index_mut-semaphore-requires : goal.index_mut-semaphore-requires
 index_mut-semaphore-requires g c =
@@ -31,12 +31,12 @@ returns-in-Ok-release-clause-follows g c =
     let within = object_in c.args.self.now c.args.of.now c.in-Ok.place c.requires.sound object in
     let there : slice_get c.args.self.now.objects.items c.in-Ok.place ≡ Some sem = slice_get_read c.args.self.now.objects.items _ c.in-Ok.place sem refl within c.index_mut-semaphore.ensures.value in
     call_follows c.args.self.now c.requires.sound c.requires.quiet (λ state. releasing (standing c.args.of.now state) c.args.n state) replies.Done
-      (record { names = c.args.self.now.names; objects = with_item c.args.self.now.objects c.in-Ok.place c.release.new.self; last = c.in-Ok.place })
-      c.in-Ok.place (record sem { line = give_back c.args.n sem.line })
-      (ap (slice_set c.args.self.now.objects.items c.in-Ok.place) c.in-Ok-release.ensures.ok) refl
-      (λ names state stands. release_follows names _ _ state stands c.args.of.now c.in-Ok.place sem object there (quiet_there c.args.self.now c.requires.sound c.requires.quiet c.in-Ok.place sem there) c.args.n
-        (refuted (overflows c.args.n sem.line sem.held) (λ over. ok_no_err c.release.result _ Overflow c.in-Ok-release.is (c.release.ensures.overflow.1 over)))
-        (subst (λ (s : SemaphoreState). IsLawful s.line s.held) c.in-Ok-release.ensures.ok c.release.ensures.lawful))
+    (record { names = c.args.self.now.names; objects = with_item c.args.self.now.objects c.in-Ok.place c.release.new.self; last = c.in-Ok.place })
+    c.in-Ok.place (record sem { line = give_back c.args.n sem.line })
+    (ap (slice_set c.args.self.now.objects.items c.in-Ok.place) c.in-Ok-release.ensures.ok) refl
+    (λ names state stands. release_follows names _ _ state stands c.args.of.now c.in-Ok.place sem object there (quiet_there c.args.self.now c.requires.sound c.requires.quiet c.in-Ok.place sem there) c.args.n
+    (refuted (overflows c.args.n sem.line sem.held) (λ over. ok_no_err c.release.result _ Overflow c.in-Ok-release.is (c.release.ensures.overflow.1 over)))
+    (subst (λ (s : SemaphoreState). IsLawful s.line s.held) c.in-Ok-release.ensures.ok c.release.ensures.lawful))
 
 pub returns-in-Ok-release-clause-sound : goal.returns-in-Ok-release-clause-sound
 returns-in-Ok-release-clause-sound g c =
@@ -45,12 +45,12 @@ returns-in-Ok-release-clause-sound g c =
     let within = object_in c.args.self.now c.args.of.now c.in-Ok.place c.requires.sound object in
     let there : slice_get c.args.self.now.objects.items c.in-Ok.place ≡ Some sem = slice_get_read c.args.self.now.objects.items _ c.in-Ok.place sem refl within c.index_mut-semaphore.ensures.value in
     call_sound c.args.self.now c.requires.sound c.requires.quiet (λ state. releasing (standing c.args.of.now state) c.args.n state) replies.Done
-      (record { names = c.args.self.now.names; objects = with_item c.args.self.now.objects c.in-Ok.place c.release.new.self; last = c.in-Ok.place })
-      c.in-Ok.place (record sem { line = give_back c.args.n sem.line })
-      (ap (slice_set c.args.self.now.objects.items c.in-Ok.place) c.in-Ok-release.ensures.ok) refl
-      (λ names state stands. release_follows names _ _ state stands c.args.of.now c.in-Ok.place sem object there (quiet_there c.args.self.now c.requires.sound c.requires.quiet c.in-Ok.place sem there) c.args.n
-        (refuted (overflows c.args.n sem.line sem.held) (λ over. ok_no_err c.release.result _ Overflow c.in-Ok-release.is (c.release.ensures.overflow.1 over)))
-        (subst (λ (s : SemaphoreState). IsLawful s.line s.held) c.in-Ok-release.ensures.ok c.release.ensures.lawful))
+    (record { names = c.args.self.now.names; objects = with_item c.args.self.now.objects c.in-Ok.place c.release.new.self; last = c.in-Ok.place })
+    c.in-Ok.place (record sem { line = give_back c.args.n sem.line })
+    (ap (slice_set c.args.self.now.objects.items c.in-Ok.place) c.in-Ok-release.ensures.ok) refl
+    (λ names state stands. release_follows names _ _ state stands c.args.of.now c.in-Ok.place sem object there (quiet_there c.args.self.now c.requires.sound c.requires.quiet c.in-Ok.place sem there) c.args.n
+    (refuted (overflows c.args.n sem.line sem.held) (λ over. ok_no_err c.release.result _ Overflow c.in-Ok-release.is (c.release.ensures.overflow.1 over)))
+    (subst (λ (s : SemaphoreState). IsLawful s.line s.held) c.in-Ok-release.ensures.ok c.release.ensures.lawful))
 
 pub returns-in-Err-release-clause-follows : goal.returns-in-Err-release-clause-follows
 returns-in-Err-release-clause-follows g c =
@@ -59,11 +59,11 @@ returns-in-Err-release-clause-follows g c =
     let within = object_in c.args.self.now c.args.of.now c.in-Ok.place c.requires.sound object in
     let there : slice_get c.args.self.now.objects.items c.in-Ok.place ≡ Some sem = slice_get_read c.args.self.now.objects.items _ c.in-Ok.place sem refl within c.index_mut-semaphore.ensures.value in
     refuses c.args.self.now c.requires.sound c.requires.quiet (λ state. releasing (standing c.args.of.now state) c.args.n state) refusals.Overflow
-      (record { names = c.args.self.now.names; objects = with_item c.args.self.now.objects c.in-Ok.place c.release.new.self; last = c.in-Ok.place })
-      (λ n. refl)
-      (ap (slice_set c.args.self.now.objects.items c.in-Ok.place) c.in-Err-release.ensures.err ∙ set_itself c.args.self.now.objects.items c.in-Ok.place sem there)
-      (λ names state stands. release_overflows names _ _ state stands c.args.of.now c.in-Ok.place sem object there (quiet_there c.args.self.now c.requires.sound c.requires.quiet c.in-Ok.place sem there) c.args.n
-        (c.release.ensures.overflow.0 (c.in-Err-release.is ∙ ap Err (only_overflow c.in-Err-release.field-0))))
+    (record { names = c.args.self.now.names; objects = with_item c.args.self.now.objects c.in-Ok.place c.release.new.self; last = c.in-Ok.place })
+    (λ n. refl)
+    (ap (slice_set c.args.self.now.objects.items c.in-Ok.place) c.in-Err-release.ensures.err ∙ set_itself c.args.self.now.objects.items c.in-Ok.place sem there)
+    (λ names state stands. release_overflows names _ _ state stands c.args.of.now c.in-Ok.place sem object there (quiet_there c.args.self.now c.requires.sound c.requires.quiet c.in-Ok.place sem there) c.args.n
+    (c.release.ensures.overflow.0 (c.in-Err-release.is ∙ ap Err (only_overflow c.in-Err-release.field-0))))
 
 pub returns-in-Err-release-clause-sound : goal.returns-in-Err-release-clause-sound
 returns-in-Err-release-clause-sound g c =
@@ -72,6 +72,6 @@ returns-in-Err-release-clause-sound g c =
     let within = object_in c.args.self.now c.args.of.now c.in-Ok.place c.requires.sound object in
     let there : slice_get c.args.self.now.objects.items c.in-Ok.place ≡ Some sem = slice_get_read c.args.self.now.objects.items _ c.in-Ok.place sem refl within c.index_mut-semaphore.ensures.value in
     still_sound c.args.self.now c.requires.sound c.requires.quiet
-      (record { names = c.args.self.now.names; objects = with_item c.args.self.now.objects c.in-Ok.place c.release.new.self; last = c.in-Ok.place })
-      (λ n. refl)
-      (ap (slice_set c.args.self.now.objects.items c.in-Ok.place) c.in-Err-release.ensures.err ∙ set_itself c.args.self.now.objects.items c.in-Ok.place sem there)
+    (record { names = c.args.self.now.names; objects = with_item c.args.self.now.objects c.in-Ok.place c.release.new.self; last = c.in-Ok.place })
+    (λ n. refl)
+    (ap (slice_set c.args.self.now.objects.items c.in-Ok.place) c.in-Err-release.ensures.err ∙ set_itself c.args.self.now.objects.items c.in-Ok.place sem there)

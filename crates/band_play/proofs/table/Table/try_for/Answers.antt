@@ -1,23 +1,19 @@
-use Rattle.std.proofs.Common.{◌≡◌, Some, Ok, Err, true, false, refl, sym, ap, ◌∙◌, ◌+◌, subst, arith, List, ℕ}
+use Rattle.std.proofs.Common.{◌≡◌, Some, refl, sym, ap, ◌∙◌, ◌+◌, subst, arith, ℕ}
 use Rattle.std.specs.List.{slice_get, slice_set}
 use Rattle.std.specs.Vec.{with_item}
 use Rattle.std.proofs.lemmas.Option.{slice_get_read}
 use Rattle.std.proofs.lemmas.Bool.{false≢true}
-use Rattle.band_balance.specs.Line.{take_permits, give_back, drained, owes_too_much, is_served}
+use Rattle.band_balance.specs.Line.{take_permits, is_served}
 use Rattle.band_sem.specs.Semaphore.{SemaphoreState, IsLawful}
-use Rattle.band_sem.specs.declared.errors.ReduceError.TheVariants.{Debt}
 use Rattle.band_sem.specs.declared.refusal.Refusal.TheVariants as refusals
-use Rattle.band_play.specs.declared.reply.Reply.{Reply}
 use Rattle.band_play.specs.declared.reply.Reply.TheVariants as replies
-use Rattle.band_play.specs.declared.thing.Thing.{Thing}
 use Rattle.band_play.specs.declared.thing.Thing.TheVariants as things
 use Rattle.band_play.specs.Names.{Updated, thing_at}
-use Rattle.band_play.specs.State.{State, Tag, standing}
-use Rattle.band_play.specs.Step.{reducing, draining, showing, trying}
-use Rattle.band_play.specs.Table.{StandsUnder}
-use Rattle.band_play.proofs.Called.{ok_no_err, refuses, shows, still_sound, still_stays, call_follows, call_sound, quiet_there, refuted, set_itself}
-use Rattle.band_play.proofs.Calling.{calling_refused, reduce_follows, reduce_owes, drain_follows, status_follows, try_taken, try_follows, try_fails}
-use Rattle.band_play.proofs.Follow.{Matches, same_table}
+use Rattle.band_play.specs.State.{standing}
+use Rattle.band_play.specs.Step.{trying}
+use Rattle.band_play.proofs.Called.{refuses, shows, still_sound, call_follows, call_sound, quiet_there, refuted, set_itself}
+use Rattle.band_play.proofs.Calling.{calling_refused, try_taken, try_follows, try_fails}
+use Rattle.band_play.proofs.Follow.{same_table}
 use Rattle.band_play.proofs.Sound.{object_in, numbered_in}
 use Rattle.band_play.proofs.TableLemmas.{some_of, some_there, none_from, updated_twice, same_names, stays, sound_same, on_err}
 use Rattle.band_play.proofs.table.Table.try_for.Goals as goal
@@ -25,7 +21,7 @@ use Rattle.band_play.proofs.table.Table.try_for.Goals as goal
 pub returns-in-Err-clause-follows : goal.returns-in-Err-clause-follows
 returns-in-Err-clause-follows c =
     refuses c.args.self.now c.requires.sound c.requires.quiet (λ state. trying (standing c.args.of.now state) c.args.made.now c.args.n state) c.in-Err.refusal c.args.self.now (λ n. refl) refl
-      (λ names state stands. calling_refused names _ _ state stands c.args.of.now c.in-Err.refusal _ (sym c.object_at.ensures ∙ c.in-Err.is))
+    (λ names state stands. calling_refused names _ _ state stands c.args.of.now c.in-Err.refusal _ (sym c.object_at.ensures ∙ c.in-Err.is))
 
 pub returns-then-is_live-clause-follows : goal.returns-then-is_live-clause-follows
 returns-then-is_live-clause-follows c =
@@ -34,12 +30,12 @@ returns-then-is_live-clause-follows c =
     let sem = some_there c.args.self.now.objects.items c.in-Ok.place within in
     let thing = some_of (thing_at c.args.self.now.names c.args.made.now) (c.is_live.ensures.0 c.if-is_live.true) in
     refuses c.args.self.now c.requires.sound c.requires.quiet (λ state. trying (standing c.args.of.now state) c.args.made.now c.args.n state) refusals.Taken c.args.self.now (λ n. refl) refl
-      (λ names state stands. try_taken names _ _ state stands c.args.of.now c.in-Ok.place sem.0 object sem.1 (quiet_there c.args.self.now c.requires.sound c.requires.quiet c.in-Ok.place sem.0 sem.1) c.args.made.now c.args.n thing.0 thing.1)
+    (λ names state stands. try_taken names _ _ state stands c.args.of.now c.in-Ok.place sem.0 object sem.1 (quiet_there c.args.self.now c.requires.sound c.requires.quiet c.in-Ok.place sem.0 sem.1) c.args.made.now c.args.n thing.0 thing.1)
 
 pub returns-in_err-reserve-clause-err : goal.returns-in_err-reserve-clause-err
 returns-in_err-reserve-clause-err c =
     on_err c.from_residual.result _ (stays c.args.self.now (record { names = c.reserve.new.names; objects = c.args.self.now.objects; last = c.args.self.now.last })
-      (same_names c.args.self.now.names c.reserve.new.names c.in_err-reserve.ensures.err) refl refl)
+    (same_names c.args.self.now.names c.reserve.new.names c.in_err-reserve.ensures.err) refl refl)
 
 pub returns-in_err-reserve-clause-sound : goal.returns-in_err-reserve-clause-sound
 returns-in_err-reserve-clause-sound c =
@@ -59,15 +55,15 @@ returns-in-Some-clause-follows c =
     let after = c.in-Some.ensures.some in
     let number : sem.number ≡ c.in-Ok.place = numbered_in c.args.self.now c.in-Ok.place c.requires.sound sem there in
     call_follows c.args.self.now c.requires.sound c.requires.quiet (λ state. trying (standing c.args.of.now state) c.args.made.now c.args.n state) replies.Done
-      (record { names = c.set.new.names; objects = with_item c.args.self.now.objects c.in-Ok.place c.try_acquire.new.self; last = c.in-Ok.place })
-      c.in-Ok.place (record sem { line = take_permits c.args.n sem.line; held = sem.held + c.args.n })
-      (ap (slice_set c.args.self.now.objects.items c.in-Ok.place) after) refl
-      (λ names state stands. try_follows names _ _ state stands c.args.of.now c.in-Ok.place sem object there (quiet_there c.args.self.now c.requires.sound c.requires.quiet c.in-Ok.place sem there) (thing_at c.set.new.names) c.args.made.now c.args.n
-        (none_from _ c.is_live.result c.is_live.ensures.1 c.if-is_live.false) (c.in-Some.ensures.served.0 refl)
-        (subst (λ (p : _). Updated (thing_at c.args.self.now.names) (thing_at c.set.new.names) c.args.made.now (Some (things.Permit p)))
-          (c.in-Some.ensures.permit ∙ ap (λ (k : ℕ). record { of = k; count = c.args.n }) number)
-          (updated_twice _ _ _ c.args.made.now _ _ c.in_ok-reserve.ensures.ok c.set.ensures))
-        (subst (λ (s : SemaphoreState). IsLawful s.line s.held) after c.try_acquire.ensures.lawful))
+    (record { names = c.set.new.names; objects = with_item c.args.self.now.objects c.in-Ok.place c.try_acquire.new.self; last = c.in-Ok.place })
+    c.in-Ok.place (record sem { line = take_permits c.args.n sem.line; held = sem.held + c.args.n })
+    (ap (slice_set c.args.self.now.objects.items c.in-Ok.place) after) refl
+    (λ names state stands. try_follows names _ _ state stands c.args.of.now c.in-Ok.place sem object there (quiet_there c.args.self.now c.requires.sound c.requires.quiet c.in-Ok.place sem there) (thing_at c.set.new.names) c.args.made.now c.args.n
+    (none_from _ c.is_live.result c.is_live.ensures.1 c.if-is_live.false) (c.in-Some.ensures.served.0 refl)
+    (subst (λ (p : _). Updated (thing_at c.args.self.now.names) (thing_at c.set.new.names) c.args.made.now (Some (things.Permit p)))
+    (c.in-Some.ensures.permit ∙ ap (λ (k : ℕ). record { of = k; count = c.args.n }) number)
+    (updated_twice _ _ _ c.args.made.now _ _ c.in_ok-reserve.ensures.ok c.set.ensures))
+    (subst (λ (s : SemaphoreState). IsLawful s.line s.held) after c.try_acquire.ensures.lawful))
 
 pub returns-in-Some-clause-sound : goal.returns-in-Some-clause-sound
 returns-in-Some-clause-sound c =
@@ -78,15 +74,15 @@ returns-in-Some-clause-sound c =
     let after = c.in-Some.ensures.some in
     let number : sem.number ≡ c.in-Ok.place = numbered_in c.args.self.now c.in-Ok.place c.requires.sound sem there in
     call_sound c.args.self.now c.requires.sound c.requires.quiet (λ state. trying (standing c.args.of.now state) c.args.made.now c.args.n state) replies.Done
-      (record { names = c.set.new.names; objects = with_item c.args.self.now.objects c.in-Ok.place c.try_acquire.new.self; last = c.in-Ok.place })
-      c.in-Ok.place (record sem { line = take_permits c.args.n sem.line; held = sem.held + c.args.n })
-      (ap (slice_set c.args.self.now.objects.items c.in-Ok.place) after) refl
-      (λ names state stands. try_follows names _ _ state stands c.args.of.now c.in-Ok.place sem object there (quiet_there c.args.self.now c.requires.sound c.requires.quiet c.in-Ok.place sem there) (thing_at c.set.new.names) c.args.made.now c.args.n
-        (none_from _ c.is_live.result c.is_live.ensures.1 c.if-is_live.false) (c.in-Some.ensures.served.0 refl)
-        (subst (λ (p : _). Updated (thing_at c.args.self.now.names) (thing_at c.set.new.names) c.args.made.now (Some (things.Permit p)))
-          (c.in-Some.ensures.permit ∙ ap (λ (k : ℕ). record { of = k; count = c.args.n }) number)
-          (updated_twice _ _ _ c.args.made.now _ _ c.in_ok-reserve.ensures.ok c.set.ensures))
-        (subst (λ (s : SemaphoreState). IsLawful s.line s.held) after c.try_acquire.ensures.lawful))
+    (record { names = c.set.new.names; objects = with_item c.args.self.now.objects c.in-Ok.place c.try_acquire.new.self; last = c.in-Ok.place })
+    c.in-Ok.place (record sem { line = take_permits c.args.n sem.line; held = sem.held + c.args.n })
+    (ap (slice_set c.args.self.now.objects.items c.in-Ok.place) after) refl
+    (λ names state stands. try_follows names _ _ state stands c.args.of.now c.in-Ok.place sem object there (quiet_there c.args.self.now c.requires.sound c.requires.quiet c.in-Ok.place sem there) (thing_at c.set.new.names) c.args.made.now c.args.n
+    (none_from _ c.is_live.result c.is_live.ensures.1 c.if-is_live.false) (c.in-Some.ensures.served.0 refl)
+    (subst (λ (p : _). Updated (thing_at c.args.self.now.names) (thing_at c.set.new.names) c.args.made.now (Some (things.Permit p)))
+    (c.in-Some.ensures.permit ∙ ap (λ (k : ℕ). record { of = k; count = c.args.n }) number)
+    (updated_twice _ _ _ c.args.made.now _ _ c.in_ok-reserve.ensures.ok c.set.ensures))
+    (subst (λ (s : SemaphoreState). IsLawful s.line s.held) after c.try_acquire.ensures.lawful))
 
 pub returns-in-None-clause-follows : goal.returns-in-None-clause-follows
 returns-in-None-clause-follows c =
@@ -95,12 +91,12 @@ returns-in-None-clause-follows c =
     let within = object_in c.args.self.now c.args.of.now c.in-Ok.place c.requires.sound object in
     let there : slice_get c.args.self.now.objects.items c.in-Ok.place ≡ Some sem = slice_get_read c.args.self.now.objects.items _ c.in-Ok.place sem refl within c.index_mut-semaphore.ensures.value in
     shows c.args.self.now c.requires.sound c.requires.quiet (λ state. trying (standing c.args.of.now state) c.args.made.now c.args.n state) replies.Nothing
-      (record { names = c.forget.new.names; objects = with_item c.args.self.now.objects c.in-Ok.place c.try_acquire.new.self; last = c.args.self.now.last })
-      c.in-Ok.place sem there
-      (same_table _ _ c.args.made.now _ (updated_twice _ _ _ c.args.made.now _ _ c.in_ok-reserve.ensures.ok c.forget.ensures) (none_from _ c.is_live.result c.is_live.ensures.1 c.if-is_live.false))
-      (ap (slice_set c.args.self.now.objects.items c.in-Ok.place) c.in-None.ensures.none ∙ set_itself c.args.self.now.objects.items c.in-Ok.place sem there)
-      (λ names state stands. try_fails names _ _ state stands c.args.of.now c.in-Ok.place sem object there (quiet_there c.args.self.now c.requires.sound c.requires.quiet c.in-Ok.place sem there) c.args.made.now c.args.n (none_from _ c.is_live.result c.is_live.ensures.1 c.if-is_live.false)
-        (refuted (is_served c.args.n sem.line) (λ served. false≢true (c.in-None.ensures.served.1 served))))
+    (record { names = c.forget.new.names; objects = with_item c.args.self.now.objects c.in-Ok.place c.try_acquire.new.self; last = c.args.self.now.last })
+    c.in-Ok.place sem there
+    (same_table _ _ c.args.made.now _ (updated_twice _ _ _ c.args.made.now _ _ c.in_ok-reserve.ensures.ok c.forget.ensures) (none_from _ c.is_live.result c.is_live.ensures.1 c.if-is_live.false))
+    (ap (slice_set c.args.self.now.objects.items c.in-Ok.place) c.in-None.ensures.none ∙ set_itself c.args.self.now.objects.items c.in-Ok.place sem there)
+    (λ names state stands. try_fails names _ _ state stands c.args.of.now c.in-Ok.place sem object there (quiet_there c.args.self.now c.requires.sound c.requires.quiet c.in-Ok.place sem there) c.args.made.now c.args.n (none_from _ c.is_live.result c.is_live.ensures.1 c.if-is_live.false)
+    (refuted (is_served c.args.n sem.line) (λ served. false≢true (c.in-None.ensures.served.1 served))))
 
 pub returns-in-None-clause-sound : goal.returns-in-None-clause-sound
 returns-in-None-clause-sound c =
@@ -109,5 +105,5 @@ returns-in-None-clause-sound c =
     let within = object_in c.args.self.now c.args.of.now c.in-Ok.place c.requires.sound object in
     let there : slice_get c.args.self.now.objects.items c.in-Ok.place ≡ Some sem = slice_get_read c.args.self.now.objects.items _ c.in-Ok.place sem refl within c.index_mut-semaphore.ensures.value in
     still_sound c.args.self.now c.requires.sound c.requires.quiet (record { names = c.forget.new.names; objects = with_item c.args.self.now.objects c.in-Ok.place c.try_acquire.new.self; last = c.args.self.now.last })
-      (same_table _ _ c.args.made.now _ (updated_twice _ _ _ c.args.made.now _ _ c.in_ok-reserve.ensures.ok c.forget.ensures) (none_from _ c.is_live.result c.is_live.ensures.1 c.if-is_live.false))
-      (ap (slice_set c.args.self.now.objects.items c.in-Ok.place) c.in-None.ensures.none ∙ set_itself c.args.self.now.objects.items c.in-Ok.place sem there)
+    (same_table _ _ c.args.made.now _ (updated_twice _ _ _ c.args.made.now _ _ c.in_ok-reserve.ensures.ok c.forget.ensures) (none_from _ c.is_live.result c.is_live.ensures.1 c.if-is_live.false))
+    (ap (slice_set c.args.self.now.objects.items c.in-Ok.place) c.in-None.ensures.none ∙ set_itself c.args.self.now.objects.items c.in-Ok.place sem there)
