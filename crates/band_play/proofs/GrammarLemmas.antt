@@ -10,11 +10,11 @@ use Rattle.std.proofs.lemmas.List.Splits.{join_with_byte-slice_split}
 use Rattle.std.proofs.lemmas.Option.{cond_some, same_Some, none-some}
 use Rattle.std.proofs.lemmas.Slice.Eq.{bytes_eq-Decides}
 use Rattle.band_play.specs.declared.call.Call.{Call}
-use Rattle.band_play.specs.declared.call.Call.TheVariants.{Sem, Ask, Poll, Drop, Try, Release, Reduce, Drain, Forget, Status}
+use Rattle.band_play.specs.declared.call.Call.TheVariants.{Sem, Ask, Poll, Drop, Try, Release, Reduce, Drain, Forget, Split, Merge, Status}
 use Rattle.band_play.specs.Name.{IsName, is_name, name_of}
 use Rattle.band_play.specs.Number.{number_of}
 use Rattle.band_play.specs.Words.{words_of, word_at, name_at, number_at, end_with, ◌>>=◌}
-use Rattle.band_play.specs.Grammar.{IsForm, IsLine, one_name_of, name_number_of, two_names_number_of, ask_of, form_of, call_of}
+use Rattle.band_play.specs.Grammar.{IsForm, IsLine, one_name_of, two_names_of, name_number_of, two_names_number_of, ask_of, form_of, call_of}
 use Rattle.band_play.proofs.NumberLemmas.{number_of-decimal, decimal-number_of}
 
 -- a step that gave something, and what the next made of it
@@ -73,6 +73,22 @@ one_name_takes word make form words call e =
 one_name_again : (make : List ℕ → Call) (name : List ℕ) → IsName name → one_name_of make (name ∷ []) ≡ Some (make name)
 unfolding one_name_of
 one_name_again make name name_is = rw (name_at_again name _ name_is) refl
+
+two_names_takes : (word : List ℕ) (make : List ℕ → List ℕ → Call)
+    → ((first second : List ℕ) → IsName first → IsName second → IsForm (word ∷ first ∷ second ∷ []) (make first second)) → Takes word (two_names_of make)
+unfolding two_names_of
+two_names_takes word make form words call e =
+    let first = bind_some (name_at words) _ call e in
+    let second = bind_some (name_at first.0.1) _ call first.2 in
+    let ended = end_takes second.0.1 (make first.0.0 second.0.0) call second.2 in
+    let first_is = name_at_takes words first.0 first.1 in
+    let second_is = name_at_takes first.0.1 second.0 second.1 in
+    form_at word words (first.0.0 ∷ second.0.0 ∷ []) call _ (cc) ended.1 (form _ _ first_is.0 second_is.0)
+
+two_names_again : (make : List ℕ → List ℕ → Call) (first second : List ℕ) → IsName first → IsName second
+    → two_names_of make (first ∷ second ∷ []) ≡ Some (make first second)
+unfolding two_names_of
+two_names_again make first second first_is second_is = rw (name_at_again first _ first_is, name_at_again second _ second_is) refl
 
 name_number_takes : (word : List ℕ) (make : List ℕ → ℕ → Call)
     → ((name : List ℕ) (n : ℕ) → IsName name → n < 2 ^ 64 → IsForm (word ∷ name ∷ decimal n ∷ []) (make name n)) → Takes word (name_number_of make)
@@ -151,8 +167,10 @@ form_takes form words call =
     chosen _ form words call _ _ (name_number_takes (codes "reduce") Reduce (λ _ _ name_is fits. (name_is, fits, refl))) (
     chosen _ form words call _ _ (name_number_takes (codes "drain") Drain (λ _ _ name_is fits. (name_is, fits, refl))) (
     chosen _ form words call _ _ (one_name_takes (codes "forget") Forget (λ _ name_is. (name_is, refl))) (
+    chosen _ form words call _ _ (two_names_number_takes (codes "split") Split (λ _ _ _ first_is second_is fits. (first_is, second_is, fits, refl))) (
+    chosen _ form words call _ _ (two_names_takes (codes "merge") Merge (λ _ _ first_is second_is. (first_is, second_is, refl))) (
     chosen _ form words call _ _ (one_name_takes (codes "status") Status (λ _ name_is. (name_is, refl))) (
-    λ none. cc))))))))))
+    λ none. cc))))))))))))
 
 words_take : (words : List (List ℕ)) (call : Call) → (word_at words >>= (λ form. form_of form.0 form.1)) ≡ Some call → IsForm words call
 words_take [] call e = cc
@@ -169,6 +187,8 @@ words_again words (Release of n) is = rw is.2 (name_number_again Release of n is
 words_again words (Reduce of n) is = rw is.2 (name_number_again Reduce of n is.0 is.1)
 words_again words (Drain of n) is = rw is.2 (name_number_again Drain of n is.0 is.1)
 words_again words (Forget name) is = rw is.1 (one_name_again Forget name is.0)
+words_again words (Split name made n) is = rw is.3 (two_names_number_again Split name made n is.0 is.1 is.2)
+words_again words (Merge kept spent) is = rw is.2 (two_names_again Merge kept spent is.0 is.1)
 words_again words (Status name) is = rw is.1 (one_name_again Status name is.0)
 
 -- a call is read only of a line that stands for it, and of each such line
@@ -230,6 +250,12 @@ longest_call_line line (Drain of n) is =
 longest_call_line line (Forget name) is =
     let whole = length_from_words line _ is.1 in
     omega (arith, simp length-append at whole, length_of_name name is.0)
+longest_call_line line (Split name made n) is =
+    let whole = length_from_words line _ is.3 in
+    omega (arith, simp length-append at whole, length_of_name name is.0, length_of_name made is.1, length_of_number n is.2)
+longest_call_line line (Merge kept spent) is =
+    let whole = length_from_words line _ is.2 in
+    omega (arith, simp length-append at whole, length_of_name kept is.0, length_of_name spent is.1)
 longest_call_line line (Status name) is =
     let whole = length_from_words line _ is.1 in
     omega (arith, simp length-append at whole, length_of_name name is.0)

@@ -12,6 +12,7 @@ pub mod LineCuts
 pub mod LineRows
 pub mod Lists
 pub mod Making
+pub mod Merging
 pub mod NameLemmas
 pub mod NumberLemmas
 pub mod Numbers

@@ -1,11 +1,11 @@
 -- Lines with the call that each stands for, computed.
 use Rattle.std.proofs.Common.{◌≡◌, Some, None, refl}
 use Rattle.std.specs.Prelude.{codes}
-use Rattle.band_play.specs.declared.call.Call.TheVariants.{Sem, Ask, Poll, Drop, Try, Release, Reduce, Drain, Forget, Status}
+use Rattle.band_play.specs.declared.call.Call.TheVariants.{Sem, Ask, Poll, Drop, Try, Release, Reduce, Drain, Forget, Split, Merge, Status}
 use Rattle.band_play.specs.Name.{name_of}
 use Rattle.band_play.specs.Number.{number_of}
 use Rattle.band_play.specs.Words.{name_at, number_at}
-use Rattle.band_play.specs.Grammar.{call_of, form_of, one_name_of, name_number_of, two_names_number_of, ask_of}
+use Rattle.band_play.specs.Grammar.{call_of, form_of, one_name_of, two_names_of, name_number_of, two_names_number_of, ask_of}
 
 sem_row : call_of (codes "sem sem 0") ≡ Some (Sem (codes "sem") 0)
 unfolding call_of form_of name_number_of name_at number_at name_of number_of
@@ -42,6 +42,14 @@ drain_row = refl
 forget_row : call_of (codes "forget p") ≡ Some (Forget (codes "p"))
 unfolding call_of form_of one_name_of name_at number_at name_of number_of
 forget_row = refl
+
+split_row : call_of (codes "split p q 2") ≡ Some (Split (codes "p") (codes "q") 2)
+unfolding call_of form_of two_names_number_of name_at number_at name_of number_of
+split_row = refl
+
+merge_row : call_of (codes "merge p q") ≡ Some (Merge (codes "p") (codes "q"))
+unfolding call_of form_of two_names_of name_at number_at name_of number_of
+merge_row = refl
 
 status_row : call_of (codes "status o") ≡ Some (Status (codes "o"))
 unfolding call_of form_of one_name_of name_at number_at name_of number_of
@@ -98,3 +106,7 @@ more_words_row = refl
 no_waker_row : call_of (codes "try p s 3 7") ≡ None
 unfolding call_of form_of two_names_number_of name_at number_at name_of number_of
 no_waker_row = refl
+
+one_name_row : call_of (codes "merge p") ≡ None
+unfolding call_of form_of two_names_of name_at number_at name_of number_of
+one_name_row = refl

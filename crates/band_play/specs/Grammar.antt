@@ -3,7 +3,7 @@ use Rattle.std.specs.Prelude.{◌≡◌, ℕ, ◌^◌, ◌<◌, List, [], ◌∷
 use Rattle.std.specs.Fmt.{decimal}
 use Rattle.std.specs.Str.{bytes_eq}
 use Rattle.band_play.specs.declared.call.Call.{Call}
-use Rattle.band_play.specs.declared.call.Call.TheVariants.{Sem, Ask, Poll, Drop, Try, Release, Reduce, Drain, Forget, Status}
+use Rattle.band_play.specs.declared.call.Call.TheVariants.{Sem, Ask, Poll, Drop, Try, Release, Reduce, Drain, Forget, Split, Merge, Status}
 use Rattle.band_play.specs.Name.{IsName}
 use Rattle.band_play.specs.Words.{words_of, word_at, name_at, number_at, end_with, ◌>>=◌}
 
@@ -23,6 +23,8 @@ IsForm words (Release of n) = IsName of × IsNumber n × (words ≡ codes "relea
 IsForm words (Reduce of n) = IsName of × IsNumber n × (words ≡ codes "reduce" ∷ of ∷ decimal n ∷ [])
 IsForm words (Drain of n) = IsName of × IsNumber n × (words ≡ codes "drain" ∷ of ∷ decimal n ∷ [])
 IsForm words (Forget name) = IsName name × (words ≡ codes "forget" ∷ name ∷ [])
+IsForm words (Split name made n) = IsName name × IsName made × IsNumber n × (words ≡ codes "split" ∷ name ∷ made ∷ decimal n ∷ [])
+IsForm words (Merge kept spent) = IsName kept × IsName spent × (words ≡ codes "merge" ∷ kept ∷ spent ∷ [])
 IsForm words (Status name) = IsName name × (words ≡ codes "status" ∷ name ∷ [])
 
 -- a line stands for a call
@@ -34,6 +36,12 @@ unfoldable pub one_name_of : (List ℕ → Call) → List (List ℕ) → Option 
 one_name_of make words = do
   name ← name_at words
   end_with name.1 (make name.0)
+
+unfoldable pub two_names_of : (List ℕ → List ℕ → Call) → List (List ℕ) → Option Call
+two_names_of make words = do
+  first ← name_at words
+  second ← name_at first.1
+  end_with second.1 (make first.0 second.0)
 
 unfoldable pub name_number_of : (List ℕ → ℕ → Call) → List (List ℕ) → Option Call
 name_number_of make words = do
@@ -68,6 +76,8 @@ form_of form words =
     if bytes_eq form (codes "reduce") then name_number_of Reduce words else
     if bytes_eq form (codes "drain") then name_number_of Drain words else
     if bytes_eq form (codes "forget") then one_name_of Forget words else
+    if bytes_eq form (codes "split") then two_names_number_of Split words else
+    if bytes_eq form (codes "merge") then two_names_of Merge words else
     if bytes_eq form (codes "status") then one_name_of Status words else
     None
 

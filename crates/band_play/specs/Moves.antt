@@ -1,11 +1,12 @@
 -- What a poll and a drop of a thing make of the semaphores.
-use Rattle.std.specs.Prelude.{◌≡◌, ℕ, ◌-◌, ◌<◌, ◌≤◌, List, length, Option, Some, None, Result, Ok, Err, slice_get, slice_set}
-use Rattle.band_balance.specs.Line.{give_back}
+use Rattle.std.specs.Prelude.{◌≡◌, ℕ, ◌+◌, ◌-◌, ◌<◌, ◌≤◌, ◌==◌, if◌then◌else◌, List, length, Option, Some, None, Result, Ok, Err, slice_get, slice_set}
+use Rattle.std.specs.Str.{bytes_eq}
+use Rattle.band_balance.specs.Line.{give_back, u64_max}
 use Rattle.band_base.specs.declared.poll.Poll.{Poll}
 use Rattle.band_base.specs.declared.poll.Poll.TheVariants as polls
 use Rattle.band_base.specs.declared.poll.PollError.{PollError}
 use Rattle.band_sem.specs.declared.refusal.Refusal.{Refusal}
-use Rattle.band_sem.specs.declared.refusal.Refusal.TheVariants.{Unknown, Kind, Finished}
+use Rattle.band_sem.specs.declared.refusal.Refusal.TheVariants.{Unknown, Kind, Same, Finished, Other}
 use Rattle.band_sem.specs.declared.acquire.Stage.{Stage}
 use Rattle.band_sem.specs.declared.acquire.Stage.TheVariants as stages
 use Rattle.band_sem.specs.Semaphore.{SemaphoreState, IsLawful, IsOwn, Polls, cancelled}
@@ -111,3 +112,42 @@ pub record PollsName (name : List ℕ) (waker : ℕ) (table table' : List ℕ �
   pub at : place ≡ place_at found
   pub polled : PollsThing found waker old left reply new
   pub updated : Updated table table' name (Some left)
+
+-- n of a permit's go to a new one
+pub record SplitsOff (name : List ℕ) (n : ℕ) (table table' : List ℕ → Option Thing) (part : Permit) : Type 0 where
+  pub whole : Permit
+  pub was : permit_of (table name) ≡ Ok whole
+  pub enough : n ≤ whole.count
+  pub part_is : part ≡ record { of = whole.of; count = n }
+  pub updated : Updated table table' name (Some (things.Permit (record { of = whole.of; count = whole.count - n })))
+
+-- it has fewer than n, and no name changes
+pub record FallsShort (name : List ℕ) (n : ℕ) (table table' : List ℕ → Option Thing) : Type 0 where
+  pub whole : Permit
+  pub was : permit_of (table name) ≡ Ok whole
+  pub fewer : whole.count < n
+  pub same : (other : List ℕ) → table' other ≡ table other
+
+-- the place of the object of two permits that can become one, or why they can't
+abbrev pub mergeable : List ℕ → List ℕ → Option Thing → Option Thing → Result ℕ Refusal
+mergeable kept spent None second = Err Unknown
+mergeable kept spent (Some first) None = Err Unknown
+mergeable kept spent (Some (things.Object place)) (Some second) = Err Kind
+mergeable kept spent (Some (things.Request place request)) (Some second) = Err Kind
+mergeable kept spent (Some (things.Permit first)) (Some (things.Object place)) = Err Kind
+mergeable kept spent (Some (things.Permit first)) (Some (things.Request place request)) = Err Kind
+mergeable kept spent (Some (things.Permit first)) (Some (things.Permit second)) =
+    if bytes_eq kept spent then Err Same else (if first.of == second.of then Ok first.of else Err Other)
+
+-- a permit can be added to what a name is
+pub record CanGrow (found : Option Thing) (more : Permit) : Type 0 where
+  pub whole : Permit
+  pub is : permit_of found ≡ Ok whole
+  pub same : whole.of ≡ more.of
+  pub fits : whole.count + more.count ≤ u64_max
+
+-- a permit's are added to what a name is
+pub record Grows (name : List ℕ) (table table' : List ℕ → Option Thing) (more : Permit) : Type 0 where
+  pub whole : Permit
+  pub was : permit_of (table name) ≡ Ok whole
+  pub updated : Updated table table' name (Some (things.Permit (record { of = whole.of; count = whole.count + more.count })))

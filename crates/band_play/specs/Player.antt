@@ -1,7 +1,7 @@
 -- What contracts say of a player.
 use Rattle.std.specs.Prelude.{◌≡◌, ℕ, List}
 use Rattle.band_play.specs.declared.call.Call.{Call}
-use Rattle.band_play.specs.declared.call.Call.TheVariants.{Sem, Ask, Poll, Drop, Try, Release, Reduce, Drain, Forget, Status}
+use Rattle.band_play.specs.declared.call.Call.TheVariants.{Sem, Ask, Poll, Drop, Try, Release, Reduce, Drain, Forget, Split, Merge, Status}
 use Rattle.band_play.specs.declared.player.Player.{Player}
 use Rattle.band_play.specs.declared.reply.Reply.{Reply}
 use Rattle.band_play.specs.State.{State}
@@ -37,4 +37,6 @@ TakesNoMemory (Release of n) = Unit {0}
 TakesNoMemory (Reduce of n) = ⊥
 TakesNoMemory (Drain of n) = Unit {0}
 TakesNoMemory (Forget name) = Unit {0}
+TakesNoMemory (Split name made n) = ⊥
+TakesNoMemory (Merge kept spent) = Unit {0}
 TakesNoMemory (Status name) = Unit {0}

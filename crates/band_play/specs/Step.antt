@@ -1,8 +1,9 @@
 -- What a call makes of a state: the reply, the wakers to wake in order, and the state afterwards.
-use Rattle.std.specs.Prelude.{ℕ, if◌then◌else◌, List, [], ◌∷◌, ◌++◌, Option, Some, None, slice_get, slice_set}
+use Rattle.std.specs.Str.{bytes_eq}
+use Rattle.std.specs.Prelude.{ℕ, ◌==◌, if◌then◌else◌, List, [], ◌∷◌, ◌++◌, Option, Some, None, slice_get, slice_set}
 use Rattle.band_sem.specs.declared.refusal.Refusal.{Refusal}
-use Rattle.band_sem.specs.declared.refusal.Refusal.TheVariants.{Unknown, Kind, Taken, Finished, Overflow, Debt}
-use Rattle.band_balance.specs.Object.{Object, Turn, Answer, Semaphore, Mutex, ReaderWriter, new_semaphore, ask, poll, drop, try_for, release, reduce, drain, status, forget, would_overflow, would_owe_too_much}
+use Rattle.band_sem.specs.declared.refusal.Refusal.TheVariants.{Unknown, Kind, Same, Taken, Finished, Other, Overflow, Debt}
+use Rattle.band_balance.specs.Object.{Object, Turn, Answer, Semaphore, Mutex, ReaderWriter, new_semaphore, ask, poll, drop, try_for, release, reduce, drain, status, forget, split, merge, would_overflow, would_owe_too_much}
 use Rattle.band_balance.specs.Object as object
 use Rattle.band_play.specs.declared.call.Call.{Call}
 use Rattle.band_play.specs.declared.call.Call.TheVariants as calls
@@ -123,6 +124,28 @@ on_permit (AHolding place) call state = on_semaphore place (λ semaphore. call p
 abbrev pub forgetting : Standing → List ℕ → State → Outcome
 forgetting standing name state = on_permit standing (λ place. turn_at place (forget (is_tag name)) state) state
 
+abbrev pub splitting : Standing → List ℕ → List ℕ → ℕ → State → Outcome
+splitting permit name made n state =
+    on_permit permit (λ place. unless_taken (standing made state) (turn_at place (split (is_tag name) (permit_tag made) n) state) state) state
+
+-- where a name is live
+abbrev pub unless_absent : Standing → Outcome → State → Outcome
+unless_absent Absent outcome state = refused Unknown state
+unless_absent (AnObject place) outcome state = outcome
+unless_absent (ARequest place) outcome state = outcome
+unless_absent (AHolding place) outcome state = outcome
+
+-- of two permits, at two places
+abbrev pub merging_held : ℕ → ℕ → List ℕ → List ℕ → State → Outcome
+merging_held place other kept spent state =
+    if bytes_eq kept spent then refused Same state
+    else (if place == other then turn_at place (merge (is_tag kept) (is_tag spent)) state else refused Other state)
+
+abbrev pub merging : Standing → Standing → List ℕ → List ℕ → State → Outcome
+merging first second kept spent state =
+    unless_absent first (unless_absent second
+        (on_permit first (λ place. on_permit second (λ other. merging_held place other kept spent state) state) state) state) state
+
 abbrev pub step : Call → State → Outcome
 step (calls.Sem made n) state = making made (new_semaphore n) state
 step (calls.Ask made of n waker) state = asking (standing of state) made n waker state
@@ -133,4 +156,6 @@ step (calls.Release of n) state = releasing (standing of state) n state
 step (calls.Reduce of n) state = reducing (standing of state) n state
 step (calls.Drain of n) state = draining (standing of state) n state
 step (calls.Forget name) state = forgetting (standing name state) name state
+step (calls.Split name made n) state = splitting (standing name state) name made n state
+step (calls.Merge kept spent) state = merging (standing kept state) (standing spent state) kept spent state
 step (calls.Status name) state = showing (standing name state) state

@@ -51,6 +51,17 @@ pub enum Call {
     Forget {
         name: Name,
     },
+    /// `split P Q N`: moves `n` of a permit to a new one.
+    Split {
+        name: Name,
+        made: Name,
+        n: u64,
+    },
+    /// `merge P Q`: moves all of the second permit to the first.
+    Merge {
+        kept: Name,
+        spent: Name,
+    },
     /// `status O`: the figures of an object.
     Status {
         name: Name,

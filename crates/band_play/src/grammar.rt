@@ -2,7 +2,7 @@
 ghost use Rattle.std.specs.Prelude.{◌≡◌, ◌≤◌, List, ℕ, length, IfSome, IfNone};
 ghost use Rattle.band_play.specs.declared.call.Call.{Call as TheCall};
 ghost use Rattle.band_play.specs.Left.{words_left};
-ghost use Rattle.band_play.specs.Grammar.{IsLine, call_of, form_of, one_name_of, name_number_of, two_names_number_of, ask_of};
+ghost use Rattle.band_play.specs.Grammar.{IsLine, call_of, form_of, one_name_of, two_names_of, name_number_of, two_names_number_of, ask_of};
 
 use crate::Call;
 use crate::words::Words;
@@ -47,6 +47,10 @@ fn parse_form(form: &[u8], words: &mut Words) -> Option<Call>
         parse_drain(words)
     } else if form == b"forget".as_slice() {
         parse_forget(words)
+    } else if form == b"split".as_slice() {
+        parse_split(words)
+    } else if form == b"merge".as_slice() {
+        parse_merge(words)
     } else if form == b"status".as_slice() {
         parse_status(words)
     } else {
@@ -134,6 +138,25 @@ fn parse_forget(words: &mut Words) -> Option<Call>
 {
     let name = words.name()?;
     words.end_with(Call::Forget { name })
+}
+
+#[tactic(auto, unfolding(crate::specs::Grammar::two_names_number_of))]
+fn parse_split(words: &mut Words) -> Option<Call>
+    ensures { result ≡ two_names_number_of Call.Split (words_left words.old) }
+{
+    let name = words.name()?;
+    let made = words.name()?;
+    let n = words.number()?;
+    words.end_with(Call::Split { name, made, n })
+}
+
+#[tactic(auto, unfolding(crate::specs::Grammar::two_names_of))]
+fn parse_merge(words: &mut Words) -> Option<Call>
+    ensures { result ≡ two_names_of Call.Merge (words_left words.old) }
+{
+    let kept = words.name()?;
+    let spent = words.name()?;
+    words.end_with(Call::Merge { kept, spent })
 }
 
 #[tactic(auto, unfolding(crate::specs::Grammar::one_name_of))]

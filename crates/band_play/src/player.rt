@@ -56,6 +56,8 @@ impl Player {
             Call::Drain { of, n } => Ok(self.table.drain(of, *n)),
             Call::Status { name } => Ok(self.table.status(name)),
             Call::Forget { name } => Ok(self.table.forget(name)),
+            Call::Split { name, made, n } => self.table.split(name, made, *n),
+            Call::Merge { kept, spent } => Ok(self.table.merge(kept, spent)),
         }
     }
 

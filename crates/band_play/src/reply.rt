@@ -11,7 +11,7 @@ pub enum Reply {
     Ready,
     /// The request waits.
     Pending,
-    /// It can't be served without waiting. No name is made.
+    /// It can't be served without waiting, or a split asks for more than there is. No name is made.
     Nothing,
     /// How many permits were taken.
     Drained(u64),

@@ -1,20 +1,20 @@
 //! What the player keeps: the names, and the objects by place.
-ghost use Rattle.std.specs.Prelude.{◌≡◌, [], OnOk, IfOk, OnErr, IfNone, IfSome, MatchOption, MatchResult, ◌∷◌, ◌<◌, length, None, Some, Ok, Err};
+ghost use Rattle.std.specs.Prelude.{◌≡◌, ◌+◌, ◌≤◌, [], OnOk, IfOk, IsOk, OnErr, IfNone, IfSome, MatchOption, MatchResult, ◌∷◌, ◌<◌, length, None, Some, Ok, Err};
 ghost use Rattle.band_balance.specs.Object.{new_semaphore};
 ghost use Rattle.band_sem.specs.declared.acquire.Stage.{Stage};
-ghost use Rattle.band_play.specs.Step.{making, asking, polling, dropping, trying, releasing, reducing, draining, showing, forgetting};
+ghost use Rattle.band_play.specs.Step.{making, asking, polling, dropping, trying, releasing, reducing, draining, showing, forgetting, splitting, merging};
 ghost use Rattle.band_play.specs.State.{standing};
 ghost use Rattle.band_play.specs.Names.{thing_at};
 ghost use Rattle.std.specs.BTreeMap.{IsUnchanged};
 ghost use Rattle.band_play.specs.declared.thing.Thing.{Thing as AnyThing};
-ghost use Rattle.band_play.specs.Moves.{PollsRequest, PollsName, IsFit, IsNumbered, object_of, permit_of};
+ghost use Rattle.band_play.specs.Moves.{PollsRequest, PollsName, IsFit, IsNumbered, object_of, permit_of, SplitsOff, FallsShort, mergeable, CanGrow, Grows};
 ghost use Rattle.band_play.specs.Kept.{StandsFor, IsSound, Follows, Stays, Remains, wakes_left};
 
 use crate::names::{self, Names};
 use crate::thing::Thing;
 use crate::{Name, Reply};
 use band_base::{Poll, Steps, Waker};
-use band_sem::{ReduceError, Refusal, Semaphore, SemaphorePermit};
+use band_sem::{MergeError, ReduceError, Refusal, Semaphore, SemaphorePermit};
 use std::alloc::{AllocError, Global};
 use std::collections::BTreeMap;
 use std::mem;
@@ -48,6 +48,61 @@ fn permit_at<'a>(names: &'a Names, name: &Name) -> Result<&'a SemaphorePermit, R
         None => Err(Refusal::Unknown),
         Some(Thing::Permit(permit)) => Ok(permit),
         Some(_) => Err(Refusal::Kind),
+    }
+}
+
+/// Takes `n` permits out of the permit with this name, if it has as many.
+fn split_off(names: &mut Names, name: &Name, n: u64) -> Option<SemaphorePermit>
+    requires { IsOk (permit_of (thing_at names.old name.now)) }
+    ensures some { IfSome result (λ part. SplitsOff name.now n (thing_at names.old) (thing_at names.new) part) }
+    ensures none { IfNone result (FallsShort name.now n (thing_at names.old) (thing_at names.new)) }
+{
+    let slot = names.get_mut(name).unwrap();
+    let mut permit = mem::replace(slot, Thing::Object(0)).into_permit();
+    let part = permit.split(n);
+    mem::replace(slot, Thing::Permit(permit)).lose();
+    part
+}
+
+/// The place of the object of two permits that can become one.
+fn mergeable(names: &Names, kept: &Name, spent: &Name) -> Result<u64, Refusal>
+    ensures { result ≡ mergeable kept.now spent.now (thing_at names.now kept.now) (thing_at names.now spent.now) }
+{
+    match (names.get(kept), names.get(spent)) {
+        (None, _) | (_, None) => Err(Refusal::Unknown),
+        (Some(Thing::Permit(first)), Some(Thing::Permit(second))) => {
+            if kept == spent {
+                Err(Refusal::Same)
+            } else if first.of() == second.of() {
+                Ok(first.of())
+            } else {
+                Err(Refusal::Other)
+            }
+        }
+        _ => Err(Refusal::Kind),
+    }
+}
+
+/// Adds a permit to the one with this name.
+fn grow(names: &mut Names, name: &Name, more: SemaphorePermit)
+    requires { CanGrow (thing_at names.old name.now) more }
+    ensures { Grows name.now (thing_at names.old) (thing_at names.new) more }
+{
+    let slot = names.get_mut(name).unwrap();
+    let mut permit = mem::replace(slot, Thing::Object(0)).into_permit();
+    join(&mut permit, more);
+    mem::replace(slot, Thing::Permit(permit)).lose();
+}
+
+/// Adds a permit of the same semaphore.
+fn join(permit: &mut SemaphorePermit, more: SemaphorePermit)
+    requires same { permit.old.of ≡ more.of }
+    requires fits { permit.old.count + more.count ≤ u64.MAX }
+    ensures { permit.new ≡ record permit.old { count = permit.old.count + more.count } }
+{
+    match permit.merge(more) {
+        Ok(()) => {}
+        Err(MergeError::OtherSemaphore(other)) => other.lose(),
     }
 }
 
@@ -338,6 +393,51 @@ impl Table {
         self.last = place;
         let semaphore = &mut self.objects[place as usize];
         semaphore.forget(permit);
+        Reply::Done
+    }
+
+    /// Moves permits of the one that a name is to a new one.
+    pub(crate) fn split(&mut self, name: &Name, made: &Name, n: u64) -> Result<Reply, AllocError>
+        requires sound { IsSound self.old }
+        requires quiet { wakes_left self.old ≡ [] }
+        ensures follows { IfOk result (λ reply. Follows (λ state. splitting (standing name.now state) name.now made.now n state) self.old reply self.new) }
+        ensures err { OnErr result (Stays self.old self.new) }
+        ensures sound { IsSound self.new }
+    {
+        if let Err(refusal) = permit_at(&self.names, name) {
+            return Ok(Reply::Refused(refusal));
+        }
+        if names::is_live(&self.names, made) {
+            return Ok(Reply::Refused(Refusal::Taken));
+        }
+        names::reserve(&mut self.names, made)?;
+        match split_off(&mut self.names, name, n) {
+            Some(part) => {
+                self.last = part.of();
+                names::set(&mut self.names, made, Thing::Permit(part));
+                Ok(Reply::Done)
+            }
+            None => {
+                names::forget(&mut self.names, made);
+                Ok(Reply::Nothing)
+            }
+        }
+    }
+
+    /// Moves all permits of the second name to the first.
+    pub(crate) fn merge(&mut self, kept: &Name, spent: &Name) -> Reply
+        requires sound { IsSound self.old }
+        requires quiet { wakes_left self.old ≡ [] }
+        ensures follows { Follows (λ state. merging (standing kept.now state) (standing spent.now state) kept.now spent.now state) self.old result self.new }
+        ensures sound { IsSound self.new }
+    {
+        let place = match mergeable(&self.names, kept, spent) {
+            Ok(place) => place,
+            Err(refusal) => return Reply::Refused(refusal),
+        };
+        let more = names::remove(&mut self.names, spent).unwrap().into_permit();
+        grow(&mut self.names, kept, more);
+        self.last = place;
         Reply::Done
     }
 

@@ -91,6 +91,21 @@ fn reads_each_form(rt: HostRuntime) {
             },
         ),
         (
+            "split p q 2",
+            Call::Split {
+                name: name(&rt, "p"),
+                made: name(&rt, "q"),
+                n: 2,
+            },
+        ),
+        (
+            "merge p q",
+            Call::Merge {
+                kept: name(&rt, "p"),
+                spent: name(&rt, "q"),
+            },
+        ),
+        (
             "status o",
             Call::Status {
                 name: name(&rt, "o"),
@@ -134,7 +149,9 @@ fn reads_no_other_line(rt: HostRuntime) {
         "try p s 3 7",
         "release s",
         "drain 1",
-        "split p q 1",
+        "split p 1",
+        "merge p",
+        "merge p q 1",
         "status",
     ];
     for line in lines {

@@ -29,3 +29,9 @@ returns-in-Status-clause-follows g c = rw c.in-Status.is c.status.ensures
 
 pub returns-in-Forget-clause-follows : goal.returns-in-Forget-clause-follows
 returns-in-Forget-clause-follows g c = rw c.in-Forget.is c.forget.ensures.follows
+
+pub returns-in-Split-clause-follows : goal.returns-in-Split-clause-follows
+returns-in-Split-clause-follows g c = rw c.in-Split.is c.split.ensures.follows
+
+pub returns-in-Merge-clause-follows : goal.returns-in-Merge-clause-follows
+returns-in-Merge-clause-follows g c = rw c.in-Merge.is c.merge.ensures.follows
