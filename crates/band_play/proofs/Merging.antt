@@ -1,5 +1,5 @@
 -- Two permits that are merged by their names follow the step of the state.
-use Rattle.std.proofs.Common.{◌≡◌, ℕ, ◌+◌, ◌-◌, ◌≤◌, ◌==◌, true, false, cond, List, [], ◌∷◌, Option, Some, None, Result, Ok, Err, refl, sym, ap, ap₂, ◌∙◌, subst, arith}
+use Rattle.std.proofs.Common.{◌≡◌, ℕ, ◌+◌, ◌≤◌, ◌==◌, false, cond, List, [], Option, Some, None, Result, Ok, Err, refl, sym, ap, ap₂, ◌∙◌, subst, arith}
 use Rattle.std.specs.List.{slice_get, slice_set}
 use Rattle.std.specs.Str.{bytes_eq}
 use Rattle.std.proofs.lemmas.Bool.{eqb-true}
@@ -7,7 +7,7 @@ use Rattle.std.proofs.Math.Logic.{∥∥₁_elim}
 use Rattle.std.proofs.Props.{props}
 use Rattle.std.proofs.lemmas.Bool.Decides.{Decides-eqb}
 use Rattle.std.proofs.lemmas.Option.{same_Some}
-use Rattle.band_balance.specs.Line.{Entry, entry_named, without, total, u64_max}
+use Rattle.band_balance.specs.Line.{entry_named, without, total, u64_max}
 use Rattle.band_balance.specs.Object.{Object, Semaphore, merge}
 use Rattle.band_balance.specs.Object as answers
 use Rattle.band_balance.proofs.Requests.{entry_named-without_other}
@@ -23,7 +23,7 @@ use Rattle.band_play.specs.declared.table.Table.{Table}
 use Rattle.band_play.specs.Kept.{IsSound}
 use Rattle.band_play.specs.Names.{Updated, thing_at}
 use Rattle.band_play.specs.State.{State, Named, Tag, is_tag, permit_tag, standing}
-use Rattle.band_play.specs.Step.{Outcome, refused, turn_of, turn_at, on_kind, with_semaphore, on_semaphore, on_permit, merging}
+use Rattle.band_play.specs.Step.{Outcome, refused, turn_of, turn_at, on_kind, with_semaphore, on_semaphore, merging}
 use Rattle.band_play.specs.Table.{StandsUnder, IsKnown}
 use Rattle.band_play.specs.Moves.{mergeable}
 use Rattle.band_play.proofs.Lists.{by_bool, cond_true, cond_false, also_at}
@@ -58,6 +58,7 @@ module _ (names : ℕ → ℕ → Tag) (table : List ℕ → Option Thing) (sems
     where
       known_permit : IsKnown names sems state name (Some (things.Permit permit))
       known_permit = subst (λ (o : Option Thing). IsKnown names sems state name o) is (stands.every name)
+
       kind_there : (named : Named) → slice_get state permit.of ≡ Some named → named.object.kind ≡ Semaphore
       kind_there named there =
           let sem = also_at sems state permit.of named stands.size there in
@@ -79,18 +80,18 @@ module _ (names : ℕ → ℕ → Tag) (table : List ℕ → Option Thing) (sems
   merge_refused_with (Some (things.Permit p)) (Some (things.Request q r)) refusal is there e = let same : refusals.Kind ≡ refusal = cc in on_held kept p _ is ∙ ap (λ r. refused r state) same
   merge_refused_with (Some (things.Permit p)) (Some (things.Permit q)) refusal is there e =
       on_held kept p _ is ∙ on_held spent q _ there ∙ by_bool (bytes_eq kept spent)
-        (λ same.
-          let which : refusals.Same ≡ refusal = err_inj _ _ _ (cond_true (bytes_eq kept spent) (Err refusals.Same) (cond (p.of == q.of) (Ok p.of) (Err refusals.Other)) same) e in
-          cond_true (bytes_eq kept spent) (refused refusals.Same state) (cond (p.of == q.of) (turn_at p.of (merge (is_tag kept) (is_tag spent)) state) (refused refusals.Other state)) same
-          ∙ ap (λ r. refused r state) which)
-        (λ apart.
-          let rest : cond (p.of == q.of) (Ok p.of) (Err refusals.Other) ≡ Err refusal = sym (cond_false (bytes_eq kept spent) (Err refusals.Same) (cond (p.of == q.of) (Ok p.of) (Err refusals.Other)) apart) ∙ e in
-          cond_false (bytes_eq kept spent) (refused refusals.Same state) (cond (p.of == q.of) (turn_at p.of (merge (is_tag kept) (is_tag spent)) state) (refused refusals.Other state)) apart
-          ∙ by_bool (p.of == q.of)
-            (λ one. absurd (ok_not_err _ _ _ (cond_true (p.of == q.of) (Ok p.of) (Err refusals.Other) one) rest))
-            (λ two.
-              let which : refusals.Other ≡ refusal = err_inj _ _ _ (cond_false (p.of == q.of) (Ok p.of) (Err refusals.Other) two) rest in
-              cond_false (p.of == q.of) (turn_at p.of (merge (is_tag kept) (is_tag spent)) state) (refused refusals.Other state) two ∙ ap (λ r. refused r state) which))
+      (λ same.
+      let which : refusals.Same ≡ refusal = err_inj _ _ _ (cond_true (bytes_eq kept spent) (Err refusals.Same) (cond (p.of == q.of) (Ok p.of) (Err refusals.Other)) same) e in
+      cond_true (bytes_eq kept spent) (refused refusals.Same state) (cond (p.of == q.of) (turn_at p.of (merge (is_tag kept) (is_tag spent)) state) (refused refusals.Other state)) same
+      ∙ ap (λ r. refused r state) which)
+      (λ apart.
+      let rest : cond (p.of == q.of) (Ok p.of) (Err refusals.Other) ≡ Err refusal = sym (cond_false (bytes_eq kept spent) (Err refusals.Same) (cond (p.of == q.of) (Ok p.of) (Err refusals.Other)) apart) ∙ e in
+      cond_false (bytes_eq kept spent) (refused refusals.Same state) (cond (p.of == q.of) (turn_at p.of (merge (is_tag kept) (is_tag spent)) state) (refused refusals.Other state)) apart
+      ∙ by_bool (p.of == q.of)
+      (λ one. absurd (ok_not_err _ _ _ (cond_true (p.of == q.of) (Ok p.of) (Err refusals.Other) one) rest))
+      (λ two.
+      let which : refusals.Other ≡ refusal = err_inj _ _ _ (cond_false (p.of == q.of) (Ok p.of) (Err refusals.Other) two) rest in
+      cond_false (p.of == q.of) (turn_at p.of (merge (is_tag kept) (is_tag spent)) state) (refused refusals.Other state) two ∙ ap (λ r. refused r state) which))
 
   pub merge_refused : (refusal : Refusal) → mergeable kept spent (table kept) (table spent) ≡ Err refusal → merging (standing kept state) (standing spent state) kept spent state ≡ refused refusal state
   merge_refused refusal e = merging_with (table kept) (table spent) refl refl ∙ merge_refused_with (table kept) (table spent) refusal refl refl e
@@ -117,16 +118,16 @@ module _ (names : ℕ → ℕ → Tag) (table : List ℕ → Option Thing) (sems
         → Matches (merging (standing kept state) (standing spent state) kept spent state) replies.Done table' first.of (slice_set sems first.of sem)
     merge_follows mid table' quiet within ended grown =
         by_turn names table' sems state first.of sem sem named answers.Done (merge (is_tag kept) (is_tag spent) named.object) _ replies.Done
-          (merging_with (Some (things.Permit first)) (Some (things.Permit second)) is there
-            ∙ on_held kept first _ is ∙ on_held spent second _ there
-            ∙ cond_false (bytes_eq kept spent) (refused refusals.Same state) (cond (first.of == second.of) (turn_at first.of (merge (is_tag kept) (is_tag spent)) state) (refused refusals.Other state)) apart
-            ∙ cond_true (first.of == second.of) (turn_at first.of (merge (is_tag kept) (is_tag spent)) state) (refused refusals.Other state) ((Decides-eqb first.of second.of).1 (sym same))
-            ∙ ap (λ o. turn_of o first.of (merge (is_tag kept) (is_tag spent)) state) first_known.1)
-          (merges names table mid table' sems state first.of sem named stands at_sem first_known.1 quiet kept spent first.count second.count apart within
-            (ended.others kept (other_way kept spent apart) ∙ is)
-            (there ∙ ap (λ (k : ℕ). Some (things.Permit (record { of = k; count = second.count }))) same)
-            first_known.2 own_spent ended grown)
-          at_sem refl
+        (merging_with (Some (things.Permit first)) (Some (things.Permit second)) is there
+        ∙ on_held kept first _ is ∙ on_held spent second _ there
+        ∙ cond_false (bytes_eq kept spent) (refused refusals.Same state) (cond (first.of == second.of) (turn_at first.of (merge (is_tag kept) (is_tag spent)) state) (refused refusals.Other state)) apart
+        ∙ cond_true (first.of == second.of) (turn_at first.of (merge (is_tag kept) (is_tag spent)) state) (refused refusals.Other state) ((Decides-eqb first.of second.of).1 (sym same))
+        ∙ ap (λ o. turn_of o first.of (merge (is_tag kept) (is_tag spent)) state) first_known.1)
+        (merges names table mid table' sems state first.of sem named stands at_sem first_known.1 quiet kept spent first.count second.count apart within
+        (ended.others kept (other_way kept spent apart) ∙ is)
+        (there ∙ ap (λ (k : ℕ). Some (things.Permit (record { of = k; count = second.count }))) same)
+        first_known.2 own_spent ended grown)
+        at_sem refl
 
     -- both are held of it
     pub both_held : first.count + second.count ≤ sem.held
@@ -135,7 +136,7 @@ module _ (names : ℕ → ℕ → Tag) (table : List ℕ → Option Thing) (sems
         let held : total named.object.held ≡ sem.held = here.held in
         let whole = total-without (is_tag spent) named.object.held (record { name = permit_tag spent; size = second.count }) own_spent in
         let still : entry_named (is_tag kept) (without (is_tag spent) named.object.held) ≡ Some (record { name = permit_tag kept; size = first.count }) =
-            entry_named-without_other (is_tag spent) (is_tag kept) named.object.held (tags_apart spent kept named.object.held (other_way kept spent apart)) ∙ first_known.2 in
+        entry_named-without_other (is_tag spent) (is_tag kept) named.object.held (tags_apart spent kept named.object.held (other_way kept spent apart)) ∙ first_known.2 in
         let rest = total-without (is_tag kept) (without (is_tag spent) named.object.held) (record { name = permit_tag kept; size = first.count }) still in
         omega arith
 
@@ -157,13 +158,13 @@ mergeable_ok kept spent (Some (things.Permit a)) (Some (things.Object b)) place 
 mergeable_ok kept spent (Some (things.Permit a)) (Some (things.Request b r)) place e = cc
 mergeable_ok kept spent (Some (things.Permit a)) (Some (things.Permit b)) place e =
     by_bool (bytes_eq kept spent)
-      (λ same. absurd (ok_not_err _ place refusals.Same e (cond_true (bytes_eq kept spent) (Err refusals.Same) (cond (a.of == b.of) (Ok a.of) (Err refusals.Other)) same)))
-      (λ apart.
-        let rest : cond (a.of == b.of) (Ok a.of) (Err refusals.Other) ≡ Ok place = sym (cond_false (bytes_eq kept spent) (Err refusals.Same) (cond (a.of == b.of) (Ok a.of) (Err refusals.Other)) apart) ∙ e in
-        by_bool (a.of == b.of)
-          (λ one.
-            (a, b, refl, refl, apart, eqb-true a.of b.of one, ok_inj _ a.of place (cond_true (a.of == b.of) (Ok a.of) (Err refusals.Other) one) rest))
-          (λ two. absurd (ok_not_err _ place refusals.Other rest (cond_false (a.of == b.of) (Ok a.of) (Err refusals.Other) two))))
+    (λ same. absurd (ok_not_err _ place refusals.Same e (cond_true (bytes_eq kept spent) (Err refusals.Same) (cond (a.of == b.of) (Ok a.of) (Err refusals.Other)) same)))
+    (λ apart.
+    let rest : cond (a.of == b.of) (Ok a.of) (Err refusals.Other) ≡ Ok place = sym (cond_false (bytes_eq kept spent) (Err refusals.Same) (cond (a.of == b.of) (Ok a.of) (Err refusals.Other)) apart) ∙ e in
+    by_bool (a.of == b.of)
+    (λ one.
+    (a, b, refl, refl, apart, eqb-true a.of b.of one, ok_inj _ a.of place (cond_true (a.of == b.of) (Ok a.of) (Err refusals.Other) one) rest))
+    (λ two. absurd (ok_not_err _ place refusals.Other rest (cond_false (a.of == b.of) (Ok a.of) (Err refusals.Other) two))))
 
 -- together they fit, in a sound table
 pub merge_fits : (table : Table) (kept spent : List ℕ) (first second : Permit) (sem : SemaphoreState) → IsSound table
@@ -171,6 +172,7 @@ pub merge_fits : (table : Table) (kept spent : List ℕ) (first second : Permit)
     → slice_get table.objects.items first.of ≡ Some sem → (first.count + second.count ≤ sem.held) × (sem.held ≤ u64_max)
 merge_fits table kept spent first second sem sound is there apart same at_sem =
     ∥∥₁_elim sound.stood (hlevel props)
-      (λ stands.
-        (both_held stands.1.0 (thing_at table.names) table.objects.items stands.0 stands.1.1 kept spent first second sem is there apart same at_sem,
-         held_fits stands.1.0 (thing_at table.names) table.objects.items stands.0 stands.1.1 kept spent first second sem is there apart same at_sem))
+    (λ stands. (
+      both_held stands.1.0 (thing_at table.names) table.objects.items stands.0 stands.1.1 kept spent first second sem is there apart same at_sem,
+      held_fits stands.1.0 (thing_at table.names) table.objects.items stands.0 stands.1.1 kept spent first second sem is there apart same at_sem,
+    ))

@@ -84,17 +84,17 @@ module _ (names : ℕ → ℕ → Tag) (table : List ℕ → Option Thing) (sems
         → Matches (splitting (standing name state) name made n state) replies.Done table' permit.of (slice_set sems permit.of sem)
     split_follows mid table' made n enough within absent absent_still first second =
         by_turn names table' sems state permit.of sem sem named answers.Done (split (is_tag name) (permit_tag made) n named.object) _ replies.Done
-          (splitting_at made n None absent ∙ ap (λ o. turn_of o permit.of (split (is_tag name) (permit_tag made) n) state) at_named)
-          (splits names table mid table' sems state permit.of sem named stands at_sem at_named quiet name made permit.count n enough within is known.2 absent_still first second)
-          at_sem refl
+        (splitting_at made n None absent ∙ ap (λ o. turn_of o permit.of (split (is_tag name) (permit_tag made) n) state) at_named)
+        (splits names table mid table' sems state permit.of sem named stands at_sem at_named quiet name made permit.count n enough within is known.2 absent_still first second)
+        at_sem refl
 
     pub split_fails : (made : List ℕ) (n : ℕ) → permit.count < n → table made ≡ None
         → Matches (splitting (standing name state) name made n state) replies.Nothing table permit.of (slice_set sems permit.of sem)
     split_fails made n beyond absent =
         by_turn names table sems state permit.of sem sem named answers.Nothing (split (is_tag name) (permit_tag made) n named.object) _ replies.Nothing
-          (splitting_at made n None absent ∙ ap (λ o. turn_of o permit.of (split (is_tag name) (permit_tag made) n) state) at_named)
-          (too_few names table table table sems state permit.of sem named stands at_sem at_named quiet name made permit.count n beyond known.2)
-          at_sem refl
+        (splitting_at made n None absent ∙ ap (λ o. turn_of o permit.of (split (is_tag name) (permit_tag made) n) state) at_named)
+        (too_few names table table table sems state permit.of sem named stands at_sem at_named quiet name made permit.count n beyond known.2)
+        at_sem refl
 
 -- a change of one name that was made after another's room, made before it
 module _ (t0 t1 t2 t3 : List ℕ → Option Thing) (made name : List ℕ) (room v w : Option Thing) (apart : bytes_eq name made ≡ false)

@@ -144,7 +144,7 @@ merging_held place other kept spent state =
 abbrev pub merging : Standing → Standing → List ℕ → List ℕ → State → Outcome
 merging first second kept spent state =
     unless_absent first (unless_absent second
-        (on_permit first (λ place. on_permit second (λ other. merging_held place other kept spent state) state) state) state) state
+    (on_permit first (λ place. on_permit second (λ other. merging_held place other kept spent state) state) state) state) state
 
 abbrev pub step : Call → State → Outcome
 step (calls.Sem made n) state = making made (new_semaphore n) state

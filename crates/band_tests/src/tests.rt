@@ -99,8 +99,12 @@ fn plays_on_amounts(rt: HostRuntime) -> Result<(), Fail> {
             "ok\nok\nrefused debt\navailable 0 free -18446744073709551615 waiting 0 granted 0 held 0\n",
         ),
         (
-            "sem s 5\ndrain s 3\ndrain s 9\nrelease s 1\nask a s 2 4\ndrain s 1\nforget a\n",
+            "sem s 5\ndrain s 3\ndrain s 9\nrelease s 1\nask a s 2 4\ndrain s 1\nsplit a b 0\n",
             "ok\ndrained 3\ndrained 2\nok\npending\ndrained 0\nrefused kind\n",
+        ),
+        (
+            "sem s 2\nsem t 1\ntry p s 2\ntry q t 1\nsplit p r 3\nsplit p r 1\nmerge p q\nmerge p p\nmerge p r\nforget p\ndrop p\n",
+            "ok\nok\nok\nok\nnone\nok\nrefused other\nrefused same\nok\nok\nrefused unknown\n",
         ),
         (
             "sem s 2\ntry p s 2\nforget p\ndrop p\nstatus s\n",
@@ -109,7 +113,12 @@ fn plays_on_amounts(rt: HostRuntime) -> Result<(), Fail> {
     ];
     for (script, written) in table {
         let mut dst = BytesOut::new(rt.alloc());
-        play_on(rt.alloc(), &mut BytesIn::new(script.as_bytes()), &mut dst, 100)?;
+        play_on(
+            rt.alloc(),
+            &mut BytesIn::new(script.as_bytes()),
+            &mut dst,
+            200,
+        )?;
         assert_eq!(rt; dst.bytes(), written.as_bytes());
     }
     Ok(())

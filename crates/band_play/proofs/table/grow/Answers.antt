@@ -1,12 +1,11 @@
-use Rattle.std.proofs.Common.{◌≡◌, ◌+◌, ℕ, List, Option, Some, None, Ok, refl, sym, ap, ◌∙◌, subst, rules}
+use Rattle.std.proofs.Common.{◌≡◌, Some, ap, ◌∙◌, subst, rules}
 use Rattle.std.specs.BTreeMap.{Updates}
 use Rattle.std.specs.Ordering.{nat_cmp}
 use Rattle.std.specs.Cmp.Lexicographic.{slice_cmp}
 use Rattle.band_sem.specs.Permit.{Permit}
-use Rattle.band_play.specs.declared.thing.Thing.{Thing}
 use Rattle.band_play.specs.declared.thing.Thing.TheVariants as things
 use Rattle.band_play.specs.Names.{thing_at, Updated}
-use Rattle.band_play.specs.Moves.{permit_of, Grows}
+use Rattle.band_play.specs.Moves.{permit_of}
 use Rattle.band_play.proofs.Updates.{updated}
 use Rattle.band_play.proofs.table.grow.Goals as goal
 
@@ -14,9 +13,9 @@ pub returns : goal.returns
 returns c =
     let was : thing_at c.args.names.now c.args.name.now ≡ Some c.replace.result = search rules in
     let set : Updated (thing_at c.args.names.now) (thing_at (c.get_mut.follows.lender c.replace-2.new.dest)) c.args.name.now (Some (things.Permit c.join.new.permit)) =
-        updated c.args.names.now (c.get_mut.follows.lender c.replace-2.new.dest) c.args.name.now (Some (things.Permit c.join.new.permit))
-          (subst (λ w. Updates (slice_cmp nat_cmp) c.args.names.now (c.get_mut.follows.lender c.replace-2.new.dest) c.args.name.now (Some w)) c.replace-2.ensures.after
-            ((c.get_mut.follows.holds c.replace-2.new.dest).3 (search rules))) in
+    updated c.args.names.now (c.get_mut.follows.lender c.replace-2.new.dest) c.args.name.now (Some (things.Permit c.join.new.permit))
+    (subst (λ w. Updates (slice_cmp nat_cmp) c.args.names.now (c.get_mut.follows.lender c.replace-2.new.dest) c.args.name.now (Some w)) c.replace-2.ensures.after
+    ((c.get_mut.follows.holds c.replace-2.new.dest).3 (search rules))) in
     record {
       whole = c.into_permit-permit.result;
       was = ap permit_of was ∙ c.into_permit-permit.ensures;

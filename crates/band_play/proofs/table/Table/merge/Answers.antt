@@ -1,8 +1,7 @@
-use Rattle.std.proofs.Common.{◌≡◌, ◌+◌, ◌≤◌, Some, None, Ok, Err, false, refl, sym, ap, ◌∙◌, subst, arith, List, ℕ}
+use Rattle.std.proofs.Common.{◌≡◌, ◌+◌, ◌≤◌, Some, false, refl, sym, ap, ◌∙◌, subst, arith}
 use Rattle.std.specs.Str.{bytes_eq}
 use Rattle.band_sem.specs.Permit.{Permit}
 use Rattle.band_play.specs.declared.reply.Reply.TheVariants as replies
-use Rattle.band_play.specs.declared.thing.Thing.{Thing}
 use Rattle.band_play.specs.declared.thing.Thing.TheVariants as things
 use Rattle.band_play.specs.Names.{Updated, thing_at}
 use Rattle.band_play.specs.State.{standing}
@@ -18,7 +17,7 @@ use Rattle.band_play.proofs.table.Table.merge.Goals as goal
 pub returns-in-Err-clause-follows : goal.returns-in-Err-clause-follows
 returns-in-Err-clause-follows c =
     refuses c.args.self.now c.requires.sound c.requires.quiet (λ state. merging (standing c.args.kept.now state) (standing c.args.spent.now state) c.args.kept.now c.args.spent.now state) c.in-Err.refusal c.args.self.now (λ n. refl) refl
-      (λ names state stands. merge_refused names _ _ state stands c.args.kept.now c.args.spent.now c.in-Err.refusal (sym c.mergeable.ensures ∙ c.in-Err.is))
+    (λ names state stands. merge_refused names _ _ state stands c.args.kept.now c.args.spent.now c.in-Err.refusal (sym c.mergeable.ensures ∙ c.in-Err.is))
 
 pub grow-requires : goal.grow-requires
 grow-requires c =
@@ -31,7 +30,7 @@ grow-requires c =
     let apart_back : bytes_eq c.args.spent.now c.args.kept.now ≡ false = other_way c.args.kept.now c.args.spent.now found.4 in
     let fits = merge_fits c.args.self.now c.args.kept.now c.args.spent.now first more sem.0 c.requires.sound found.2 there found.4 (sym one) sem.1 in
     let still : thing_at c.remove.new.names c.args.kept.now ≡ Some (things.Permit first) = c.remove.ensures.updated.others c.args.kept.now apart_back ∙ found.2 in
-    record { whole = first; is = ap permit_of still; same = one; fits = omega (arith, fits.0, fits.1); }
+    record { whole = first; is = ap permit_of still; same = one; fits = omega (arith, fits.0, fits.1) }
 
 pub returns-clause-follows : goal.returns-clause-follows
 returns-clause-follows c =
@@ -47,12 +46,12 @@ returns-clause-follows c =
     let whole : c.grow.ensures.whole ≡ first = permit_same c.grow.ensures.whole first (sym (permit_from _ c.grow.ensures.whole c.grow.ensures.was) ∙ still) in
     let within : more.count ≤ sem.0.held = omega (arith, fits.0) in
     let grown : Updated (thing_at c.remove.new.names) (thing_at c.grow.new.names) c.args.kept.now (Some (things.Permit (record { of = first.of; count = first.count + more.count }))) =
-        subst (λ (p : Permit). Updated (thing_at c.remove.new.names) (thing_at c.grow.new.names) c.args.kept.now (Some (things.Permit (record { of = p.of; count = p.count + more.count })))) whole c.grow.ensures.updated in
+    subst (λ (p : Permit). Updated (thing_at c.remove.new.names) (thing_at c.grow.new.names) c.args.kept.now (Some (things.Permit (record { of = p.of; count = p.count + more.count })))) whole c.grow.ensures.updated in
     call_follows c.args.self.now c.requires.sound c.requires.quiet (λ state. merging (standing c.args.kept.now state) (standing c.args.spent.now state) c.args.kept.now c.args.spent.now state) replies.Done
-      (record { names = c.grow.new.names; objects = c.args.self.now.objects; last = c.in-Ok.place })
-      first.of sem.0 (sym (set_itself c.args.self.now.objects.items first.of sem.0 sem.1)) (sym found.6)
-      (λ names state stands. merge_follows names _ _ state stands c.args.kept.now c.args.spent.now first more sem.0 found.2 there found.4 (sym one) sem.1
-        (thing_at c.remove.new.names) (thing_at c.grow.new.names) (quiet_there c.args.self.now c.requires.sound c.requires.quiet first.of sem.0 sem.1) within c.remove.ensures.updated grown)
+    (record { names = c.grow.new.names; objects = c.args.self.now.objects; last = c.in-Ok.place })
+    first.of sem.0 (sym (set_itself c.args.self.now.objects.items first.of sem.0 sem.1)) (sym found.6)
+    (λ names state stands. merge_follows names _ _ state stands c.args.kept.now c.args.spent.now first more sem.0 found.2 there found.4 (sym one) sem.1
+    (thing_at c.remove.new.names) (thing_at c.grow.new.names) (quiet_there c.args.self.now c.requires.sound c.requires.quiet first.of sem.0 sem.1) within c.remove.ensures.updated grown)
 
 pub returns-clause-sound : goal.returns-clause-sound
 returns-clause-sound c =
@@ -68,10 +67,9 @@ returns-clause-sound c =
     let whole : c.grow.ensures.whole ≡ first = permit_same c.grow.ensures.whole first (sym (permit_from _ c.grow.ensures.whole c.grow.ensures.was) ∙ still) in
     let within : more.count ≤ sem.0.held = omega (arith, fits.0) in
     let grown : Updated (thing_at c.remove.new.names) (thing_at c.grow.new.names) c.args.kept.now (Some (things.Permit (record { of = first.of; count = first.count + more.count }))) =
-        subst (λ (p : Permit). Updated (thing_at c.remove.new.names) (thing_at c.grow.new.names) c.args.kept.now (Some (things.Permit (record { of = p.of; count = p.count + more.count })))) whole c.grow.ensures.updated in
+    subst (λ (p : Permit). Updated (thing_at c.remove.new.names) (thing_at c.grow.new.names) c.args.kept.now (Some (things.Permit (record { of = p.of; count = p.count + more.count })))) whole c.grow.ensures.updated in
     call_sound c.args.self.now c.requires.sound c.requires.quiet (λ state. merging (standing c.args.kept.now state) (standing c.args.spent.now state) c.args.kept.now c.args.spent.now state) replies.Done
-      (record { names = c.grow.new.names; objects = c.args.self.now.objects; last = c.in-Ok.place })
-      first.of sem.0 (sym (set_itself c.args.self.now.objects.items first.of sem.0 sem.1)) (sym found.6)
-      (λ names state stands. merge_follows names _ _ state stands c.args.kept.now c.args.spent.now first more sem.0 found.2 there found.4 (sym one) sem.1
-        (thing_at c.remove.new.names) (thing_at c.grow.new.names) (quiet_there c.args.self.now c.requires.sound c.requires.quiet first.of sem.0 sem.1) within c.remove.ensures.updated grown)
-
+    (record { names = c.grow.new.names; objects = c.args.self.now.objects; last = c.in-Ok.place })
+    first.of sem.0 (sym (set_itself c.args.self.now.objects.items first.of sem.0 sem.1)) (sym found.6)
+    (λ names state stands. merge_follows names _ _ state stands c.args.kept.now c.args.spent.now first more sem.0 found.2 there found.4 (sym one) sem.1
+    (thing_at c.remove.new.names) (thing_at c.grow.new.names) (quiet_there c.args.self.now c.requires.sound c.requires.quiet first.of sem.0 sem.1) within c.remove.ensures.updated grown)

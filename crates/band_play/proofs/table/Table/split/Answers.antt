@@ -1,28 +1,24 @@
-use Rattle.std.proofs.Common.{◌≡◌, ◌-◌, ◌<◌, length, Some, None, Ok, Err, false, refl, sym, ap, ap₂, ◌∙◌, subst, arith, List, ℕ}
-use Rattle.std.specs.List.{slice_get, slice_set}
+use Rattle.std.proofs.Common.{◌≡◌, Some, None, false, refl, sym, ap, ◌∙◌, subst}
 use Rattle.std.specs.Str.{bytes_eq}
-use Rattle.band_sem.specs.Semaphore.{SemaphoreState}
 use Rattle.band_sem.specs.Permit.{Permit}
 use Rattle.band_sem.specs.declared.refusal.Refusal.TheVariants as refusals
 use Rattle.band_play.specs.declared.reply.Reply.TheVariants as replies
-use Rattle.band_play.specs.declared.thing.Thing.{Thing}
 use Rattle.band_play.specs.declared.thing.Thing.TheVariants as things
 use Rattle.band_play.specs.Names.{Updated, thing_at}
 use Rattle.band_play.specs.State.{standing}
 use Rattle.band_play.specs.Step.{splitting}
-use Rattle.band_play.specs.Moves.{permit_of}
 use Rattle.band_play.proofs.Called.{refuses, shows, still_sound, call_follows, call_sound, quiet_there, set_itself}
 use Rattle.band_play.proofs.Permitting.{permit_from, permit_there, permit_refused, split_taken, split_follows, split_fails, between, change_first, room_still, then_set, two_names}
 use Rattle.band_play.proofs.Follow.{same_table}
 use Rattle.band_play.proofs.Parts.{other_way}
 use Rattle.band_play.proofs.Sound.{fits_in}
-use Rattle.band_play.proofs.TableLemmas.{some_of, none_from, updated_twice, same_names, stays, sound_same, on_err}
+use Rattle.band_play.proofs.TableLemmas.{some_of, none_from, same_names, stays, sound_same, on_err}
 use Rattle.band_play.proofs.table.Table.split.Goals as goal
 
 pub returns-in-Err-clause-follows : goal.returns-in-Err-clause-follows
 returns-in-Err-clause-follows c =
     refuses c.args.self.now c.requires.sound c.requires.quiet (λ state. splitting (standing c.args.name.now state) c.args.name.now c.args.made.now c.args.n state) c.in-Err.refusal c.args.self.now (λ n. refl) refl
-      (λ names state stands. permit_refused names _ _ state stands c.args.name.now c.in-Err.refusal _ c.in-Err.ensures)
+    (λ names state stands. permit_refused names _ _ state stands c.args.name.now c.in-Err.refusal _ c.in-Err.ensures)
 
 pub returns-then-is_live-clause-follows : goal.returns-then-is_live-clause-follows
 returns-then-is_live-clause-follows c =
@@ -31,12 +27,12 @@ returns-then-is_live-clause-follows c =
     let sem = permit_there _ permit (fits_in c.args.self.now c.args.name.now (things.Permit permit) c.requires.sound is) in
     let thing = some_of (thing_at c.args.self.now.names c.args.made.now) (c.is_live.ensures.0 c.if-is_live.true) in
     refuses c.args.self.now c.requires.sound c.requires.quiet (λ state. splitting (standing c.args.name.now state) c.args.name.now c.args.made.now c.args.n state) refusals.Taken c.args.self.now (λ n. refl) refl
-      (λ names state stands. split_taken names _ _ state stands c.args.name.now permit sem.0 is sem.1 (quiet_there c.args.self.now c.requires.sound c.requires.quiet permit.of sem.0 sem.1) c.args.made.now c.args.n thing.0 thing.1)
+    (λ names state stands. split_taken names _ _ state stands c.args.name.now permit sem.0 is sem.1 (quiet_there c.args.self.now c.requires.sound c.requires.quiet permit.of sem.0 sem.1) c.args.made.now c.args.n thing.0 thing.1)
 
 pub returns-in_err-reserve-clause-err : goal.returns-in_err-reserve-clause-err
 returns-in_err-reserve-clause-err c =
     on_err c.from_residual.result _ (stays c.args.self.now (record { names = c.reserve.new.names; objects = c.args.self.now.objects; last = c.args.self.now.last })
-      (same_names c.args.self.now.names c.reserve.new.names c.in_err-reserve.ensures.err) refl refl)
+    (same_names c.args.self.now.names c.reserve.new.names c.in_err-reserve.ensures.err) refl refl)
 
 pub returns-in_err-reserve-clause-sound : goal.returns-in_err-reserve-clause-sound
 returns-in_err-reserve-clause-sound c =
@@ -53,18 +49,18 @@ returns-in-Some-clause-follows c =
     let is : thing_at c.args.self.now.names c.args.name.now ≡ Some (things.Permit permit) = sym (c.in_ok-reserve.ensures.ok.others c.args.name.now apart_back) ∙ permit_from _ permit split.was in
     let sem = permit_there _ permit (fits_in c.args.self.now c.args.name.now (things.Permit permit) c.requires.sound is) in
     let set : Updated (thing_at c.split_off.new.names) (thing_at c.set.new.names) c.args.made.now (Some (things.Permit (record { of = permit.of; count = c.args.n }))) =
-        subst (λ (p : Permit). Updated (thing_at c.split_off.new.names) (thing_at c.set.new.names) c.args.made.now (Some (things.Permit p))) split.part_is c.set.ensures in
+    subst (λ (p : Permit). Updated (thing_at c.split_off.new.names) (thing_at c.set.new.names) c.args.made.now (Some (things.Permit p))) split.part_is c.set.ensures in
     call_follows c.args.self.now c.requires.sound c.requires.quiet (λ state. splitting (standing c.args.name.now state) c.args.name.now c.args.made.now c.args.n state) replies.Done
-      (record { names = c.set.new.names; objects = c.args.self.now.objects; last = c.of-self.result })
-      permit.of sem.0
-      (sym (set_itself c.args.self.now.objects.items permit.of sem.0 sem.1))
-      (c.of-self.ensures ∙ ap (λ (p : Permit). p.of) split.part_is)
-      (λ names state stands. split_follows names _ _ state stands c.args.name.now permit sem.0 is sem.1 (quiet_there c.args.self.now c.requires.sound c.requires.quiet permit.of sem.0 sem.1)
-        (between (thing_at c.args.self.now.names) (thing_at c.reserve.new.names) (thing_at c.split_off.new.names) (thing_at c.set.new.names) c.args.made.now c.args.name.now _ _ _ apart c.in_ok-reserve.ensures.ok split.updated set)
-        (thing_at c.set.new.names) c.args.made.now c.args.n split.enough sem.3 absent
-        (room_still (thing_at c.args.self.now.names) (thing_at c.reserve.new.names) (thing_at c.split_off.new.names) (thing_at c.set.new.names) c.args.made.now c.args.name.now _ _ _ apart c.in_ok-reserve.ensures.ok split.updated set ∙ absent)
-        (change_first (thing_at c.args.self.now.names) (thing_at c.reserve.new.names) (thing_at c.split_off.new.names) (thing_at c.set.new.names) c.args.made.now c.args.name.now _ _ _ apart c.in_ok-reserve.ensures.ok split.updated set)
-        (then_set (thing_at c.args.self.now.names) (thing_at c.reserve.new.names) (thing_at c.split_off.new.names) (thing_at c.set.new.names) c.args.made.now c.args.name.now _ _ _ apart c.in_ok-reserve.ensures.ok split.updated set))
+    (record { names = c.set.new.names; objects = c.args.self.now.objects; last = c.of-self.result })
+    permit.of sem.0
+    (sym (set_itself c.args.self.now.objects.items permit.of sem.0 sem.1))
+    (c.of-self.ensures ∙ ap (λ (p : Permit). p.of) split.part_is)
+    (λ names state stands. split_follows names _ _ state stands c.args.name.now permit sem.0 is sem.1 (quiet_there c.args.self.now c.requires.sound c.requires.quiet permit.of sem.0 sem.1)
+    (between (thing_at c.args.self.now.names) (thing_at c.reserve.new.names) (thing_at c.split_off.new.names) (thing_at c.set.new.names) c.args.made.now c.args.name.now _ _ _ apart c.in_ok-reserve.ensures.ok split.updated set)
+    (thing_at c.set.new.names) c.args.made.now c.args.n split.enough sem.3 absent
+    (room_still (thing_at c.args.self.now.names) (thing_at c.reserve.new.names) (thing_at c.split_off.new.names) (thing_at c.set.new.names) c.args.made.now c.args.name.now _ _ _ apart c.in_ok-reserve.ensures.ok split.updated set ∙ absent)
+    (change_first (thing_at c.args.self.now.names) (thing_at c.reserve.new.names) (thing_at c.split_off.new.names) (thing_at c.set.new.names) c.args.made.now c.args.name.now _ _ _ apart c.in_ok-reserve.ensures.ok split.updated set)
+    (then_set (thing_at c.args.self.now.names) (thing_at c.reserve.new.names) (thing_at c.split_off.new.names) (thing_at c.set.new.names) c.args.made.now c.args.name.now _ _ _ apart c.in_ok-reserve.ensures.ok split.updated set))
 
 pub returns-in-Some-clause-sound : goal.returns-in-Some-clause-sound
 returns-in-Some-clause-sound c =
@@ -77,18 +73,18 @@ returns-in-Some-clause-sound c =
     let is : thing_at c.args.self.now.names c.args.name.now ≡ Some (things.Permit permit) = sym (c.in_ok-reserve.ensures.ok.others c.args.name.now apart_back) ∙ permit_from _ permit split.was in
     let sem = permit_there _ permit (fits_in c.args.self.now c.args.name.now (things.Permit permit) c.requires.sound is) in
     let set : Updated (thing_at c.split_off.new.names) (thing_at c.set.new.names) c.args.made.now (Some (things.Permit (record { of = permit.of; count = c.args.n }))) =
-        subst (λ (p : Permit). Updated (thing_at c.split_off.new.names) (thing_at c.set.new.names) c.args.made.now (Some (things.Permit p))) split.part_is c.set.ensures in
+    subst (λ (p : Permit). Updated (thing_at c.split_off.new.names) (thing_at c.set.new.names) c.args.made.now (Some (things.Permit p))) split.part_is c.set.ensures in
     call_sound c.args.self.now c.requires.sound c.requires.quiet (λ state. splitting (standing c.args.name.now state) c.args.name.now c.args.made.now c.args.n state) replies.Done
-      (record { names = c.set.new.names; objects = c.args.self.now.objects; last = c.of-self.result })
-      permit.of sem.0
-      (sym (set_itself c.args.self.now.objects.items permit.of sem.0 sem.1))
-      (c.of-self.ensures ∙ ap (λ (p : Permit). p.of) split.part_is)
-      (λ names state stands. split_follows names _ _ state stands c.args.name.now permit sem.0 is sem.1 (quiet_there c.args.self.now c.requires.sound c.requires.quiet permit.of sem.0 sem.1)
-        (between (thing_at c.args.self.now.names) (thing_at c.reserve.new.names) (thing_at c.split_off.new.names) (thing_at c.set.new.names) c.args.made.now c.args.name.now _ _ _ apart c.in_ok-reserve.ensures.ok split.updated set)
-        (thing_at c.set.new.names) c.args.made.now c.args.n split.enough sem.3 absent
-        (room_still (thing_at c.args.self.now.names) (thing_at c.reserve.new.names) (thing_at c.split_off.new.names) (thing_at c.set.new.names) c.args.made.now c.args.name.now _ _ _ apart c.in_ok-reserve.ensures.ok split.updated set ∙ absent)
-        (change_first (thing_at c.args.self.now.names) (thing_at c.reserve.new.names) (thing_at c.split_off.new.names) (thing_at c.set.new.names) c.args.made.now c.args.name.now _ _ _ apart c.in_ok-reserve.ensures.ok split.updated set)
-        (then_set (thing_at c.args.self.now.names) (thing_at c.reserve.new.names) (thing_at c.split_off.new.names) (thing_at c.set.new.names) c.args.made.now c.args.name.now _ _ _ apart c.in_ok-reserve.ensures.ok split.updated set))
+    (record { names = c.set.new.names; objects = c.args.self.now.objects; last = c.of-self.result })
+    permit.of sem.0
+    (sym (set_itself c.args.self.now.objects.items permit.of sem.0 sem.1))
+    (c.of-self.ensures ∙ ap (λ (p : Permit). p.of) split.part_is)
+    (λ names state stands. split_follows names _ _ state stands c.args.name.now permit sem.0 is sem.1 (quiet_there c.args.self.now c.requires.sound c.requires.quiet permit.of sem.0 sem.1)
+    (between (thing_at c.args.self.now.names) (thing_at c.reserve.new.names) (thing_at c.split_off.new.names) (thing_at c.set.new.names) c.args.made.now c.args.name.now _ _ _ apart c.in_ok-reserve.ensures.ok split.updated set)
+    (thing_at c.set.new.names) c.args.made.now c.args.n split.enough sem.3 absent
+    (room_still (thing_at c.args.self.now.names) (thing_at c.reserve.new.names) (thing_at c.split_off.new.names) (thing_at c.set.new.names) c.args.made.now c.args.name.now _ _ _ apart c.in_ok-reserve.ensures.ok split.updated set ∙ absent)
+    (change_first (thing_at c.args.self.now.names) (thing_at c.reserve.new.names) (thing_at c.split_off.new.names) (thing_at c.set.new.names) c.args.made.now c.args.name.now _ _ _ apart c.in_ok-reserve.ensures.ok split.updated set)
+    (then_set (thing_at c.args.self.now.names) (thing_at c.reserve.new.names) (thing_at c.split_off.new.names) (thing_at c.set.new.names) c.args.made.now c.args.name.now _ _ _ apart c.in_ok-reserve.ensures.ok split.updated set))
 
 pub returns-in-None-clause-follows : goal.returns-in-None-clause-follows
 returns-in-None-clause-follows c =
@@ -101,12 +97,12 @@ returns-in-None-clause-follows c =
     let is : thing_at c.args.self.now.names c.args.name.now ≡ Some (things.Permit permit) = sym (c.in_ok-reserve.ensures.ok.others c.args.name.now apart_back) ∙ permit_from _ permit short.was in
     let sem = permit_there _ permit (fits_in c.args.self.now c.args.name.now (things.Permit permit) c.requires.sound is) in
     let ended : Updated (thing_at c.args.self.now.names) (thing_at c.forget.new.names) c.args.made.now None =
-        record { here = c.forget.ensures.here; others = λ n other. c.forget.ensures.others n other ∙ short.same n ∙ c.in_ok-reserve.ensures.ok.others n other; } in
+    record { here = c.forget.ensures.here; others = λ n other. c.forget.ensures.others n other ∙ short.same n ∙ c.in_ok-reserve.ensures.ok.others n other } in
     let back = same_table (thing_at c.args.self.now.names) (thing_at c.forget.new.names) c.args.made.now None ended absent in
     shows c.args.self.now c.requires.sound c.requires.quiet (λ state. splitting (standing c.args.name.now state) c.args.name.now c.args.made.now c.args.n state) replies.Nothing
-      (record { names = c.forget.new.names; objects = c.args.self.now.objects; last = c.args.self.now.last })
-      permit.of sem.0 sem.1 back refl
-      (λ names state stands. split_fails names _ _ state stands c.args.name.now permit sem.0 is sem.1 (quiet_there c.args.self.now c.requires.sound c.requires.quiet permit.of sem.0 sem.1) c.args.made.now c.args.n short.fewer absent)
+    (record { names = c.forget.new.names; objects = c.args.self.now.objects; last = c.args.self.now.last })
+    permit.of sem.0 sem.1 back refl
+    (λ names state stands. split_fails names _ _ state stands c.args.name.now permit sem.0 is sem.1 (quiet_there c.args.self.now c.requires.sound c.requires.quiet permit.of sem.0 sem.1) c.args.made.now c.args.n short.fewer absent)
 
 pub returns-in-None-clause-sound : goal.returns-in-None-clause-sound
 returns-in-None-clause-sound c =
@@ -119,6 +115,6 @@ returns-in-None-clause-sound c =
     let is : thing_at c.args.self.now.names c.args.name.now ≡ Some (things.Permit permit) = sym (c.in_ok-reserve.ensures.ok.others c.args.name.now apart_back) ∙ permit_from _ permit short.was in
     let sem = permit_there _ permit (fits_in c.args.self.now c.args.name.now (things.Permit permit) c.requires.sound is) in
     let ended : Updated (thing_at c.args.self.now.names) (thing_at c.forget.new.names) c.args.made.now None =
-        record { here = c.forget.ensures.here; others = λ n other. c.forget.ensures.others n other ∙ short.same n ∙ c.in_ok-reserve.ensures.ok.others n other; } in
+    record { here = c.forget.ensures.here; others = λ n other. c.forget.ensures.others n other ∙ short.same n ∙ c.in_ok-reserve.ensures.ok.others n other } in
     let back = same_table (thing_at c.args.self.now.names) (thing_at c.forget.new.names) c.args.made.now None ended absent in
     still_sound c.args.self.now c.requires.sound c.requires.quiet (record { names = c.forget.new.names; objects = c.args.self.now.objects; last = c.args.self.now.last }) back refl
