@@ -5,6 +5,7 @@ use crate::devices::{Drips, FailingSink, FailingSource, Lasts, Measured, Sips};
 use band_base::{BytesIn, BytesOut, Sink, Source, Steps};
 use band_play::{Call, Name, PlayFault, Player, Reply, play, run};
 use std::alloc::{AllocError, Global};
+use std::fmt::Write;
 use std::marker::Brand;
 use std::sync::ledger::{Blank, Ledger};
 use std::test::Fail;
@@ -121,6 +122,28 @@ fn plays_on_amounts(rt: HostRuntime) -> Result<(), Fail> {
         )?;
         assert_eq!(rt; dst.bytes(), written.as_bytes());
     }
+    Ok(())
+}
+
+#[test]
+fn wakes_a_burst_in_order(rt: HostRuntime) -> Result<(), Fail> {
+    let mut script = String::from_str(rt.alloc(), "sem s 0\n")?;
+    let mut written = String::from_str(rt.alloc(), "ok\n")?;
+    for i in 1..66 {
+        writeln!(script, "ask r{i} s 1 {i}")?;
+        written.push_str("pending\n")?;
+    }
+    script.push_str("release s 67\nstatus s\n")?;
+    written.push_str("ok\n")?;
+    for i in 1..66 {
+        writeln!(written, "wake {i}")?;
+    }
+    written.push_str("available 2 free 2 waiting 0 granted 65 held 0\n")?;
+    let mut dst = BytesOut::new(rt.alloc());
+    let mut src = BytesIn::new(script.as_bytes());
+    let status = run_on(rt.alloc(), &play_word(rt.alloc())?, &mut src, &mut dst);
+    assert_eq!(rt; status, 0);
+    assert_eq!(rt; dst.bytes(), written.as_bytes());
     Ok(())
 }
 
