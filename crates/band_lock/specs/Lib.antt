@@ -1,0 +1,3 @@
+pub mod Lock
+pub mod ReaderWriter
+pub use Rattle.band_balance.specs.Line

@@ -1,0 +1,350 @@
+//! The reader-writer lock.
+ghost use Rattle.std.specs.Prelude.{◌≡◌, ◌+◌, ◌-◌, ◌<◌, ◌≤◌, ◌^◌, ◌↔◌, [], ◌∷◌, IsTrue, IsSome, IfSome, OnSome, IfNone, MatchOption};
+ghost use Rattle.band_balance.specs.Line.{open_line, is_served, take_permits, give_back};
+ghost use Rattle.band_sem.specs.declared.acquire.Stage.{Stage};
+ghost use Rattle.band_sem.specs.Laws.{KeepsOrder, Leaves};
+ghost use Rattle.band_sem.specs.Semaphore.{IsLawful, IsOwn, Polls, cancelled, with_wakes};
+ghost use Rattle.band_lock.specs.Lock.{IsLock};
+
+use crate::shares;
+use band_base::{Poll, PollError, Steps, Waker};
+use band_sem::{Acquire, Semaphore, SemaphorePermit};
+use std::alloc::Global;
+use std::marker::Model;
+use std::sync::ledger::Ledger;
+
+/// A reader-writer lock without its value. Ports the core of `RwLock`, as a state that is changed by one call at a time.
+#[derive(Drop)]
+pub struct RwLockState {
+    max_readers: u64,
+    semaphore: Semaphore,
+}
+
+impl Model for RwLockState {
+    ghost use Rattle.std.specs.Prelude.{◌<◌};
+    ghost use Rattle.band_lock.specs.Lock.{IsLock};
+    ghost use Rattle.band_lock.specs.ReaderWriter.{ReaderWriter};
+
+    ghost Value = { ReaderWriter };
+
+    ghost view = { λ l. record { max = l.max_readers; shares = l.semaphore } };
+
+    ghost invariant = { λ l. (0 < l.max_readers) × IsLock l.max_readers l.semaphore };
+}
+
+/// A request to read. It must be ended by `cancel` or `lose`. Ports the future of `read`.
+pub struct ReadRequest {
+    request: Acquire,
+}
+
+impl Model for ReadRequest {
+    ghost use Rattle.std.specs.Prelude.{◌≡◌};
+    ghost use Rattle.band_sem.specs.Request.{Request};
+
+    ghost Value = { Request };
+
+    ghost view = { λ r. r.request };
+
+    ghost invariant = { λ r. r.request.size ≡ 1 };
+}
+
+/// A request to write. It must be ended by `cancel` or `lose`. Ports the future of `write`.
+pub struct WriteRequest {
+    request: Acquire,
+}
+
+impl Model for WriteRequest {
+    ghost use Rattle.std.specs.Prelude.{◌<◌};
+    ghost use Rattle.band_sem.specs.Request.{Request};
+
+    ghost Value = { Request };
+
+    ghost view = { λ r. r.request };
+
+    ghost invariant = { λ r. 0 < r.request.size };
+}
+
+/// The right to read. It goes back by `RwLockState::drop_read`, and must.
+pub struct ReadAccess {
+    permit: SemaphorePermit,
+}
+
+impl Model for ReadAccess {
+    ghost use Rattle.std.specs.Prelude.{◌≡◌};
+    ghost use Rattle.band_sem.specs.Permit.{Permit};
+
+    ghost Value = { Permit };
+
+    ghost view = { λ a. a.permit };
+
+    ghost invariant = { λ a. a.permit.count ≡ 1 };
+}
+
+/// The right to write. It goes back by `RwLockState::drop_write`, and must.
+pub struct WriteAccess {
+    permit: SemaphorePermit,
+}
+
+impl Model for WriteAccess {
+    ghost use Rattle.std.specs.Prelude.{◌<◌};
+    ghost use Rattle.band_sem.specs.Permit.{Permit};
+
+    ghost Value = { Permit };
+
+    ghost view = { λ a. a.permit };
+
+    ghost invariant = { λ a. 0 < a.permit.count };
+}
+
+/// The most readers where none are named: half of all numbers.
+const MAX_READERS: u64 = u64::MAX >> 1;
+
+impl RwLockState {
+    /// A lock that nobody has, for as many readers as there can be, which tokens know by `number`.
+    pub fn new(alloc: Global, number: u64) -> RwLockState
+        ensures start { result ≡ record { max = 2 ^ 63 - 1; shares = record { number = number; line = open_line (2 ^ 63 - 1); held = 0 } } }
+        ensures lock { IsLock result.max result.shares }
+    {
+        RwLockState::with_max_readers(alloc, number, MAX_READERS)
+    }
+
+    /// The same for at most `max_readers` at a time.
+    pub fn with_max_readers(alloc: Global, number: u64, max_readers: u64) -> RwLockState
+        requires { 0 < max_readers }
+        ensures start { result ≡ record { max = max_readers; shares = record { number = number; line = open_line max_readers; held = 0 } } }
+        ensures lock { IsLock result.max result.shares }
+    {
+        RwLockState {
+            max_readers,
+            semaphore: Semaphore::new(alloc, number, max_readers),
+        }
+    }
+
+    /// The most readers at a time (own).
+    pub fn max_readers(&self) -> u64
+        ensures max { result ≡ self.now.max }
+        ensures some { 0 < result }
+    {
+        self.max_readers
+    }
+
+    /// Its shares as a semaphore, for its figures (own).
+    pub fn semaphore(&self) -> &Semaphore
+        ensures { result.now ≡ self.now.shares }
+    {
+        &self.semaphore
+    }
+
+    /// A request to read, not polled yet.
+    pub fn read(&self) -> ReadRequest
+        ensures { result ≡ record { of = self.now.shares.number; size = 1; stage = Stage.NotPolled } }
+    {
+        ReadRequest {
+            request: self.semaphore.acquire(1),
+        }
+    }
+
+    /// A request to write, not polled yet.
+    pub fn write(&self) -> WriteRequest
+        ensures { result ≡ record { of = self.now.shares.number; size = self.now.max; stage = Stage.NotPolled } }
+    {
+        WriteRequest {
+            request: self.semaphore.acquire(self.max_readers),
+        }
+    }
+
+    /// Takes the right to read if there is one and nobody waits. It never joins the line.
+    pub fn try_read(&mut self) -> Option<ReadAccess>
+        ensures served { IsSome result ↔ IsTrue (is_served 1 self.old.shares.line) }
+        ensures access { IfSome result (λ access. access ≡ record { of = self.old.shares.number; count = 1 }) }
+        ensures some { OnSome result (self.new ≡ record self.old { shares = record self.old.shares { line = take_permits 1 self.old.shares.line; held = self.old.shares.held + 1 } }) }
+        ensures none { IfNone result (self.new ≡ self.old) }
+        ensures lawful { IsLawful self.new.shares.line self.new.shares.held }
+        ensures lock { IsLock self.new.max self.new.shares }
+    {
+        let permit = shares::try_take(&mut self.semaphore, 1)?;
+        Some(ReadAccess { permit })
+    }
+
+    /// Takes the right to write if nobody has the lock and nobody waits. It never joins the line.
+    pub fn try_write(&mut self) -> Option<WriteAccess>
+        ensures served { IsSome result ↔ IsTrue (is_served self.old.max self.old.shares.line) }
+        ensures access { IfSome result (λ access. access ≡ record { of = self.old.shares.number; count = self.old.max }) }
+        ensures some { OnSome result (self.new ≡ record self.old { shares = record self.old.shares { line = take_permits self.old.max self.old.shares.line; held = self.old.shares.held + self.old.max } }) }
+        ensures none { IfNone result (self.new ≡ self.old) }
+        ensures lawful { IsLawful self.new.shares.line self.new.shares.held }
+        ensures lock { IsLock self.new.max self.new.shares }
+    {
+        let permit = shares::try_take(&mut self.semaphore, self.max_readers)?;
+        Some(WriteAccess { permit })
+    }
+
+    /// Gives the right to read back. Then the line settles.
+    pub fn drop_read<L: Ledger>(&mut self, a: ReadAccess, steps: &mut Steps<L>)
+        requires number { a.of ≡ self.old.shares.number }
+        requires held { a.count ≤ self.old.shares.held }
+        ensures one { a.count ≡ 1 }
+        ensures state { self.new ≡ record self.old { shares = record self.old.shares { line = give_back 1 self.old.shares.line; held = self.old.shares.held - 1 } } }
+        ensures order { KeepsOrder self.old.shares.line self.new.shares.line }
+        ensures lawful { IsLawful self.new.shares.line self.new.shares.held }
+        ensures lock { IsLock self.new.max self.new.shares }
+    {
+        shares::give_back(&mut self.semaphore, a.into_permit(), steps);
+    }
+
+    /// Gives the right to write back, which is all shares. Then the line settles.
+    pub fn drop_write<L: Ledger>(&mut self, a: WriteAccess, steps: &mut Steps<L>)
+        requires number { a.of ≡ self.old.shares.number }
+        requires held { a.count ≤ self.old.shares.held }
+        ensures state { self.new ≡ record self.old { shares = record self.old.shares { line = give_back a.count self.old.shares.line; held = self.old.shares.held - a.count } } }
+        ensures order { KeepsOrder self.old.shares.line self.new.shares.line }
+        ensures lawful { IsLawful self.new.shares.line self.new.shares.held }
+        ensures lock { IsLock self.new.max self.new.shares }
+    {
+        shares::give_back(&mut self.semaphore, a.into_permit(), steps);
+    }
+
+    /// Makes the right to write one to read: all shares but one go back. Then the line settles.
+    pub fn downgrade<L: Ledger>(&mut self, a: WriteAccess, steps: &mut Steps<L>) -> ReadAccess
+        requires number { a.of ≡ self.old.shares.number }
+        requires held { a.count ≤ self.old.shares.held }
+        ensures access { result ≡ record { of = a.of; count = 1 } }
+        ensures state { self.new ≡ record self.old { shares = record self.old.shares { line = give_back (a.count - 1) self.old.shares.line; held = self.old.shares.held - (a.count - 1) } } }
+        ensures order { KeepsOrder self.old.shares.line self.new.shares.line }
+        ensures lawful { IsLawful self.new.shares.line self.new.shares.held }
+        ensures lock { IsLock self.new.max self.new.shares }
+    {
+        let permit = shares::keep_one(&mut self.semaphore, a.into_permit(), steps);
+        ReadAccess { permit }
+    }
+
+    /// Takes the oldest waker to wake, if there is one (own).
+    pub fn take_wake(&mut self) -> Option<Waker>
+        ensures woken { MatchOption result
+            ((self.old.shares.line.wakes ≡ []) × (self.new ≡ self.old))
+            (λ waker. self.old ≡ record self.new { shares = with_wakes (waker.0 ∷ self.new.shares.line.wakes) self.new.shares }) }
+        ensures lawful { IsLawful self.new.shares.line self.new.shares.held }
+        ensures lock { IsLock self.new.max self.new.shares }
+    {
+        shares::take_wake(&mut self.semaphore)
+    }
+}
+
+impl ReadRequest {
+    /// Asks for the right to read: the first time it may join the line, and later it asks whether it was granted.
+    pub fn poll_once<L: Ledger>(
+        &mut self,
+        l: &mut RwLockState,
+        waker: Waker,
+        steps: &mut Steps<L>,
+    ) -> Result<Poll<ReadAccess>, PollError>
+        requires number { self.old.of ≡ l.old.shares.number }
+        requires own { IsOwn self.old.stage self.old.size l.old.shares.line }
+        ensures one { self.old.size ≡ 1 }
+        ensures polls { Polls self.old waker.0 l.old.shares result self.new l.new.shares }
+        ensures max { l.new.max ≡ l.old.max }
+        ensures order { KeepsOrder l.old.shares.line l.new.shares.line }
+        ensures lawful { IsLawful l.new.shares.line l.new.shares.held }
+        ensures lock { IsLock l.new.max l.new.shares }
+    {
+        match shares::poll(&mut self.request, &mut l.semaphore, waker, steps)? {
+            Poll::Ready(permit) => Ok(Poll::Ready(ReadAccess { permit })),
+            Poll::Pending => Ok(Poll::Pending),
+        }
+    }
+
+    /// Ends the request. One that waits leaves the line, and one that was granted gives its share back. Then the line settles.
+    pub fn cancel<L: Ledger>(self, l: &mut RwLockState, steps: &mut Steps<L>)
+        requires number { self.of ≡ l.old.shares.number }
+        requires own { IsOwn self.stage self.size l.old.shares.line }
+        ensures state { l.new ≡ record l.old { shares = cancelled self.stage l.old.shares } }
+        ensures others { Leaves self.stage l.old.shares l.new.shares }
+        ensures order { KeepsOrder l.old.shares.line l.new.shares.line }
+        ensures lawful { IsLawful l.new.shares.line l.new.shares.held }
+        ensures lock { IsLock l.new.max l.new.shares }
+    {
+        let ReadRequest { request } = self;
+        shares::cancel(request, &mut l.semaphore, steps);
+    }
+
+    /// Ends the state and leaves what it stands for in the line, for a lock that ends too (own).
+    pub fn lose(self) {
+        let ReadRequest { request } = self;
+        request.lose();
+    }
+}
+
+impl WriteRequest {
+    /// Asks for the right to write: the first time it may join the line, and later it asks whether it was granted.
+    pub fn poll_once<L: Ledger>(
+        &mut self,
+        l: &mut RwLockState,
+        waker: Waker,
+        steps: &mut Steps<L>,
+    ) -> Result<Poll<WriteAccess>, PollError>
+        requires number { self.old.of ≡ l.old.shares.number }
+        requires own { IsOwn self.old.stage self.old.size l.old.shares.line }
+        ensures polls { Polls self.old waker.0 l.old.shares result self.new l.new.shares }
+        ensures max { l.new.max ≡ l.old.max }
+        ensures order { KeepsOrder l.old.shares.line l.new.shares.line }
+        ensures lawful { IsLawful l.new.shares.line l.new.shares.held }
+        ensures lock { IsLock l.new.max l.new.shares }
+    {
+        match shares::poll(&mut self.request, &mut l.semaphore, waker, steps)? {
+            Poll::Ready(permit) => Ok(Poll::Ready(WriteAccess { permit })),
+            Poll::Pending => Ok(Poll::Pending),
+        }
+    }
+
+    /// Ends the request. One that waits leaves the line, and one that was granted gives all shares back. Then the line settles.
+    pub fn cancel<L: Ledger>(self, l: &mut RwLockState, steps: &mut Steps<L>)
+        requires number { self.of ≡ l.old.shares.number }
+        requires own { IsOwn self.stage self.size l.old.shares.line }
+        ensures state { l.new ≡ record l.old { shares = cancelled self.stage l.old.shares } }
+        ensures others { Leaves self.stage l.old.shares l.new.shares }
+        ensures order { KeepsOrder l.old.shares.line l.new.shares.line }
+        ensures lawful { IsLawful l.new.shares.line l.new.shares.held }
+        ensures lock { IsLock l.new.max l.new.shares }
+    {
+        let WriteRequest { request } = self;
+        shares::cancel(request, &mut l.semaphore, steps);
+    }
+
+    /// Ends the state and leaves what it stands for in the line, for a lock that ends too (own).
+    pub fn lose(self) {
+        let WriteRequest { request } = self;
+        request.lose();
+    }
+}
+
+impl ReadAccess {
+    fn into_permit(self) -> SemaphorePermit
+        ensures permit { result ≡ self }
+        ensures one { self.count ≡ 1 }
+    {
+        let ReadAccess { permit } = self;
+        permit
+    }
+
+    /// Ends the token and leaves its share held, for a lock that ends too (own).
+    pub fn lose(self) {
+        let ReadAccess { permit } = self;
+        permit.lose();
+    }
+}
+
+impl WriteAccess {
+    fn into_permit(self) -> SemaphorePermit
+        ensures permit { result ≡ self }
+        ensures some { 0 < self.count }
+    {
+        let WriteAccess { permit } = self;
+        permit
+    }
+
+    /// Ends the token and leaves its shares held, for a lock that ends too (own).
+    pub fn lose(self) {
+        let WriteAccess { permit } = self;
+        permit.lose();
+    }
+}
