@@ -8,6 +8,7 @@ pub mod Moves
 pub mod Name
 pub mod Names
 pub mod Number
+pub mod Objects
 pub mod Play
 pub mod Player
 pub mod Script

@@ -11,6 +11,8 @@ use Rattle.band_sem.specs.declared.acquire.Stage.{Stage}
 use Rattle.band_sem.specs.declared.acquire.Stage.TheVariants as stages
 use Rattle.band_sem.specs.Semaphore.{SemaphoreState, IsLawful, IsOwn, Polls, cancelled}
 use Rattle.band_sem.specs.Permit.{Permit}
+use Rattle.band_balance.specs.Object.{Mode}
+use Rattle.band_play.specs.Objects.{ObjectState, RequestState, HoldingState, shares_of, asked_of, permit_in}
 use Rattle.band_sem.specs.Request.{Request}
 use Rattle.band_play.specs.declared.reply.Reply.{Reply}
 use Rattle.band_play.specs.declared.reply.Reply.TheVariants as replies
@@ -151,3 +153,22 @@ pub record Grows (name : List ℕ) (table table' : List ℕ → Option Thing) (m
   pub whole : Permit
   pub was : permit_of (table name) ≡ Ok whole
   pub updated : Updated table table' name (Some (things.Permit (record { of = whole.of; count = whole.count + more.count })))
+
+-- the answer of a poll with the mode of what it gave
+abbrev pub permit_answer : Result (Poll HoldingState) PollError → Result (Poll Permit) PollError
+permit_answer (Ok (polls.Ready holding)) = Ok (polls.Ready (permit_in holding))
+permit_answer (Ok polls.Pending) = Ok polls.Pending
+permit_answer (Err error) = Err error
+
+-- what it gave has the mode of the request
+abbrev pub GivesIn : Mode → Result (Poll HoldingState) PollError → Type 0
+GivesIn mode (Ok (polls.Ready holding)) = holding.mode ≡ mode
+GivesIn mode (Ok polls.Pending) = Unit {0}
+GivesIn mode (Err error) = Unit {0}
+
+-- a poll of a request of an object, which keeps its kind and mode
+pub record PollsAs (request : RequestState) (waker : ℕ) (old : ObjectState) (result : Result (Poll HoldingState) PollError) (request' : RequestState) (new : ObjectState) : Type 0 where
+  pub polled : Polls (asked_of request) waker (shares_of old) (permit_answer result) (asked_of request') (shares_of new)
+  pub kind : new.kind ≡ old.kind
+  pub mode : request'.mode ≡ request.mode
+  pub gives : GivesIn request.mode result
