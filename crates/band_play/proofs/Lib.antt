@@ -2,6 +2,7 @@ pub mod Asking
 pub mod Called
 pub mod Calling
 pub mod Change
+pub mod Conservation
 pub mod Devices
 pub mod Distinct
 pub mod Follow
@@ -16,6 +17,8 @@ pub mod Merging
 pub mod NameLemmas
 pub mod NumberLemmas
 pub mod Numbers
+pub mod ObjectNames
+pub mod ObjectPermits
 pub mod Parts
 pub mod Permits
 pub mod Permitting

@@ -1,3 +1,4 @@
+pub mod Conservation
 pub mod Given
 pub mod Grammar
 pub mod Intake
