@@ -171,6 +171,13 @@ impl LockRequest {
 }
 
 impl LockGuard {
+    /// The number of its mutex (own).
+    pub fn of(&self) -> u64
+        ensures { result ≡ self.now.of }
+    {
+        self.permit.of()
+    }
+
     fn into_permit(self) -> SemaphorePermit
         ensures permit { result ≡ self }
         ensures one { self.count ≡ 1 }

@@ -318,6 +318,13 @@ impl WriteRequest {
 }
 
 impl ReadAccess {
+    /// The number of its lock (own).
+    pub fn of(&self) -> u64
+        ensures { result ≡ self.now.of }
+    {
+        self.permit.of()
+    }
+
     fn into_permit(self) -> SemaphorePermit
         ensures permit { result ≡ self }
         ensures one { self.count ≡ 1 }
@@ -334,6 +341,13 @@ impl ReadAccess {
 }
 
 impl WriteAccess {
+    /// The number of its lock (own).
+    pub fn of(&self) -> u64
+        ensures { result ≡ self.now.of }
+    {
+        self.permit.of()
+    }
+
     fn into_permit(self) -> SemaphorePermit
         ensures permit { result ≡ self }
         ensures some { 0 < self.count }

@@ -1,6 +1,6 @@
 -- What the player keeps, and what it stands for.
 use Rattle.std.specs.Prelude.{◌≡◌, ◌≢◌, ℕ, List, [], Option, Some, None, slice_get}
-use Rattle.band_sem.specs.Semaphore.{SemaphoreState}
+use Rattle.band_play.specs.Objects.{ObjectState}
 use Rattle.band_play.specs.declared.reply.Reply.{Reply}
 use Rattle.band_play.specs.declared.table.Table.{Table}
 use Rattle.band_play.specs.State.{State}
@@ -12,7 +12,7 @@ use Rattle.band_play.specs.Table.{Stands}
 abbrev pub StandsFor : Table → State → Type 0
 StandsFor table state = Stands (thing_at table.names) table.objects.items state
 
-abbrev pub wakes_of : Option SemaphoreState → List ℕ
+abbrev pub wakes_of : Option ObjectState → List ℕ
 wakes_of None = []
 wakes_of (Some sem) = sem.line.wakes
 
@@ -21,8 +21,8 @@ abbrev pub wakes_left : Table → List ℕ
 wakes_left table = wakes_of (slice_get table.objects.items table.last)
 
 -- no other object has wakers to take
-abbrev pub OthersQuiet : ℕ → List SemaphoreState → Type 0
-OthersQuiet last sems = (place : ℕ) (sem : SemaphoreState) → place ≢ last → slice_get sems place ≡ Some sem → sem.line.wakes ≡ []
+abbrev pub OthersQuiet : ℕ → List ObjectState → Type 0
+OthersQuiet last sems = (place : ℕ) (sem : ObjectState) → place ≢ last → slice_get sems place ≡ Some sem → sem.line.wakes ≡ []
 
 -- it stands for some state, and only the object that was called last has wakers to take
 pub record IsSound (table : Table) : Type 0 where

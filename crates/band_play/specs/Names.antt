@@ -20,4 +20,4 @@ abbrev pub is_object : Option Thing → Bool
 is_object None = false
 is_object (Some (things.Object place)) = true
 is_object (Some (things.Request place request)) = false
-is_object (Some (things.Permit permit)) = false
+is_object (Some (things.Holding holding)) = false

@@ -21,8 +21,11 @@ State = List Named
 abbrev pub is_tag : List ℕ → Tag → Bool
 is_tag name tag = bytes_eq name tag.name
 
+abbrev pub tag : Mode → List ℕ → Tag
+tag mode name = record { name = name; mode = mode }
+
 abbrev pub permit_tag : List ℕ → Tag
-permit_tag name = record { name = name; mode = Permit }
+permit_tag name = tag Permit name
 
 abbrev pub stands_in : List ℕ → List (Entry Tag) → Bool
 stands_in name entries = list_any (λ e. is_tag name e.name) entries

@@ -1,15 +1,16 @@
 -- What a call makes of a state: the reply, the wakers to wake in order, and the state afterwards.
 use Rattle.std.specs.Str.{bytes_eq}
-use Rattle.std.specs.Prelude.{ℕ, ◌==◌, if◌then◌else◌, List, [], ◌∷◌, ◌++◌, Option, Some, None, slice_get, slice_set}
+use Rattle.std.specs.Prelude.{ℕ, Bool, true, false, ◌==◌, if◌then◌else◌, List, [], ◌∷◌, ◌++◌, Option, Some, None, slice_get, slice_set}
 use Rattle.band_sem.specs.declared.refusal.Refusal.{Refusal}
 use Rattle.band_sem.specs.declared.refusal.Refusal.TheVariants.{Unknown, Kind, Same, Taken, Finished, Other, Overflow, Debt}
-use Rattle.band_balance.specs.Object.{Object, Turn, Answer, Semaphore, Mutex, ReaderWriter, new_semaphore, ask, poll, drop, try_for, release, reduce, drain, status, forget, split, merge, would_overflow, would_owe_too_much}
+use Rattle.band_balance.specs.Line.{Entry, entry_named}
+use Rattle.band_balance.specs.Object.{Object, Mode, Permit, Lock, Read, Write, Turn, Answer, Semaphore, Mutex, ReaderWriter, new_semaphore, ask, poll, drop, try_for, release, reduce, drain, status, forget, split, merge, would_overflow, would_owe_too_much}
 use Rattle.band_balance.specs.Object as object
 use Rattle.band_play.specs.declared.call.Call.{Call}
 use Rattle.band_play.specs.declared.call.Call.TheVariants as calls
 use Rattle.band_play.specs.declared.reply.Reply.{Reply}
 use Rattle.band_play.specs.declared.reply.Reply.TheVariants as replies
-use Rattle.band_play.specs.State.{State, Named, Tag, Standing, Absent, AnObject, ARequest, AHolding, standing, is_tag, permit_tag}
+use Rattle.band_play.specs.State.{State, Named, Tag, Standing, Absent, AnObject, ARequest, AHolding, standing, is_tag, tag, permit_tag}
 
 pub record Outcome : Type 0 where
   pub reply : Reply
@@ -56,18 +57,24 @@ making made new state =
     (record { reply = replies.Done; woken = []; state = state ++ record { name = made; object = new } ∷ [] })
     state
 
--- where the object at a place is a semaphore
-abbrev pub on_kind : object.Kind → Outcome → State → Outcome
-on_kind Semaphore outcome state = outcome
-on_kind Mutex outcome state = refused Kind state
-on_kind (ReaderWriter max) outcome state = refused Kind state
+-- this is asked of objects of this kind
+abbrev pub is_of : object.Kind → Mode → Bool
+is_of Semaphore Permit = true
+is_of Mutex Lock = true
+is_of (ReaderWriter max) Read = true
+is_of (ReaderWriter max) Write = true
+is_of kind mode = false
 
-abbrev pub with_semaphore : Option Named → (Object Tag → Outcome) → State → Outcome
-with_semaphore None call state = refused Unknown state
-with_semaphore (Some named) call state = on_kind named.object.kind (call named.object) state
+-- where the object at a place is one of which this is asked
+abbrev pub on_kind : Mode → object.Kind → Outcome → State → Outcome
+on_kind mode kind outcome state = if is_of kind mode then outcome else refused Kind state
 
-abbrev pub on_semaphore : ℕ → (Object Tag → Outcome) → State → Outcome
-on_semaphore place call state = with_semaphore (slice_get state place) call state
+abbrev pub with_object : Mode → Option Named → (Object Tag → Outcome) → State → Outcome
+with_object mode None call state = refused Unknown state
+with_object mode (Some named) call state = on_kind mode named.object.kind (call named.object) state
+
+abbrev pub on_object : Mode → ℕ → (Object Tag → Outcome) → State → Outcome
+on_object mode place call state = with_object mode (slice_get state place) call state
 
 -- a call of the object that a name is
 abbrev pub calling : Standing → (ℕ → Outcome) → State → Outcome
@@ -76,13 +83,14 @@ calling (AnObject place) call state = call place
 calling (ARequest place) call state = refused Kind state
 calling (AHolding place) call state = refused Kind state
 
--- a call of the semaphore that a name is
-abbrev pub calling_semaphore : Standing → (ℕ → Object Tag → Outcome) → State → Outcome
-calling_semaphore standing call state = calling standing (λ place. on_semaphore place (call place) state) state
+-- a call of the object that a name is, of which this is asked
+abbrev pub calling_for : Mode → Standing → (ℕ → Object Tag → Outcome) → State → Outcome
+calling_for mode standing call state = calling standing (λ place. on_object mode place (call place) state) state
 
-abbrev pub asking : Standing → List ℕ → ℕ → ℕ → State → Outcome
-asking of made n waker state =
-    calling_semaphore of (λ place semaphore. unless_taken (standing made state) (turn_at place (ask (permit_tag made) n waker) state) state) state
+abbrev pub asking : Mode → (object.Kind → ℕ) → Standing → List ℕ → ℕ → State → Outcome
+asking mode size of made waker state =
+    calling_for mode of (λ place object.
+    unless_taken (standing made state) (turn_at place (ask (tag mode made) (size object.kind) waker) state) state) state
 
 abbrev pub polling : Standing → List ℕ → ℕ → State → Outcome
 polling Absent name waker state = refused Unknown state
@@ -96,37 +104,56 @@ dropping (AnObject place) name state = refused Kind state
 dropping (ARequest place) name state = turn_at place (drop (is_tag name)) state
 dropping (AHolding place) name state = turn_at place (drop (is_tag name)) state
 
-abbrev pub trying : Standing → List ℕ → ℕ → State → Outcome
-trying of made n state =
-    calling_semaphore of (λ place semaphore. unless_taken (standing made state) (turn_at place (try_for (permit_tag made) n) state) state) state
+abbrev pub trying : Mode → (object.Kind → ℕ) → Standing → List ℕ → State → Outcome
+trying mode size of made state =
+    calling_for mode of (λ place object.
+    unless_taken (standing made state) (turn_at place (try_for (tag mode made) (size object.kind)) state) state) state
 
 abbrev pub releasing : Standing → ℕ → State → Outcome
 releasing of n state =
-    calling_semaphore of (λ place semaphore. if would_overflow n semaphore then refused Overflow state else turn_at place (release n) state) state
+    calling_for Permit of (λ place semaphore. if would_overflow n semaphore then refused Overflow state else turn_at place (release n) state) state
 
 abbrev pub reducing : Standing → ℕ → State → Outcome
 reducing of n state =
-    calling_semaphore of (λ place semaphore. if would_owe_too_much n semaphore then refused Debt state else turn_at place (reduce n) state) state
+    calling_for Permit of (λ place semaphore. if would_owe_too_much n semaphore then refused Debt state else turn_at place (reduce n) state) state
 
 abbrev pub draining : Standing → ℕ → State → Outcome
-draining of n state = calling_semaphore of (λ place semaphore. turn_at place (drain n) state) state
+draining of n state = calling_for Permit of (λ place semaphore. turn_at place (drain n) state) state
 
 abbrev pub showing : Standing → State → Outcome
 showing of state = calling of (λ place. turn_at place status state) state
 
--- a call of the permit that a name is: what is held of a semaphore
-abbrev pub on_permit : Standing → (ℕ → Outcome) → State → Outcome
-on_permit Absent call state = refused Unknown state
-on_permit (AnObject place) call state = refused Kind state
-on_permit (ARequest place) call state = refused Kind state
-on_permit (AHolding place) call state = on_semaphore place (λ semaphore. call place) state
+abbrev pub same_mode : Mode → Mode → Bool
+same_mode Permit Permit = true
+same_mode Lock Lock = true
+same_mode Read Read = true
+same_mode Write Write = true
+same_mode mode other = false
+
+-- where something is held in this mode
+abbrev pub if_held : Mode → Option (Entry Tag) → Outcome → State → Outcome
+if_held mode None outcome state = refused Unknown state
+if_held mode (Some entry) outcome state = if same_mode mode entry.name.mode then outcome else refused Kind state
+
+-- what a name holds of an object
+abbrev pub held_by : List ℕ → Option Named → Option (Entry Tag)
+held_by name None = None
+held_by name (Some named) = entry_named (is_tag name) named.object.held
+
+-- a call of what a name holds in this mode
+abbrev pub on_held : Mode → Standing → List ℕ → (ℕ → Outcome) → State → Outcome
+on_held mode Absent name call state = refused Unknown state
+on_held mode (AnObject place) name call state = refused Kind state
+on_held mode (ARequest place) name call state = refused Kind state
+on_held mode (AHolding place) name call state = if_held mode (held_by name (slice_get state place)) (call place) state
 
 abbrev pub forgetting : Standing → List ℕ → State → Outcome
-forgetting standing name state = on_permit standing (λ place. turn_at place (forget (is_tag name)) state) state
+forgetting permit name state = on_held Permit permit name (λ place. turn_at place (forget (is_tag name)) state) state
 
 abbrev pub splitting : Standing → List ℕ → List ℕ → ℕ → State → Outcome
 splitting permit name made n state =
-    on_permit permit (λ place. unless_taken (standing made state) (turn_at place (split (is_tag name) (permit_tag made) n) state) state) state
+    on_held Permit permit name (λ place.
+    unless_taken (standing made state) (turn_at place (split (is_tag name) (permit_tag made) n) state) state) state
 
 -- where a name is live
 abbrev pub unless_absent : Standing → Outcome → State → Outcome
@@ -144,14 +171,14 @@ merging_held place other kept spent state =
 abbrev pub merging : Standing → Standing → List ℕ → List ℕ → State → Outcome
 merging first second kept spent state =
     unless_absent first (unless_absent second
-    (on_permit first (λ place. on_permit second (λ other. merging_held place other kept spent state) state) state) state) state
+    (on_held Permit first kept (λ place. on_held Permit second spent (λ other. merging_held place other kept spent state) state) state) state) state
 
 abbrev pub step : Call → State → Outcome
 step (calls.Sem made n) state = making made (new_semaphore n) state
-step (calls.Ask made of n waker) state = asking (standing of state) made n waker state
+step (calls.Ask made of n waker) state = asking Permit (λ kind. n) (standing of state) made waker state
 step (calls.Poll name waker) state = polling (standing name state) name waker state
 step (calls.Drop name) state = dropping (standing name state) name state
-step (calls.Try made of n) state = trying (standing of state) made n state
+step (calls.Try made of n) state = trying Permit (λ kind. n) (standing of state) made state
 step (calls.Release of n) state = releasing (standing of state) n state
 step (calls.Reduce of n) state = reducing (standing of state) n state
 step (calls.Drain of n) state = draining (standing of state) n state

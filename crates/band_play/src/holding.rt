@@ -1,9 +1,10 @@
 //! What a script holds of its objects.
+ghost use Rattle.std.specs.Prelude.{◌≡◌, ◌+◌, ◌≤◌};
 
 use crate::object::{Object, Primitive};
 use band_base::Steps;
 use band_lock::{LockGuard, ReadAccess, WriteAccess};
-use band_sem::SemaphorePermit;
+use band_sem::{MergeError, SemaphorePermit};
 use std::marker::Model;
 use std::sync::ledger::Ledger;
 
@@ -28,10 +29,24 @@ impl Model for Holding {
     ghost view = { λ h. holding_of h.any };
 }
 
+/// Adds a permit of the same semaphore.
+fn add_permit(permit: &mut SemaphorePermit, more: SemaphorePermit)
+    requires same { permit.old.of ≡ more.of }
+    requires fits { permit.old.count + more.count ≤ u64.MAX }
+    ensures { permit.new ≡ record permit.old { count = permit.old.count + more.count } }
+{
+    match permit.merge(more) {
+        Ok(()) => {}
+        Err(MergeError::OtherSemaphore(other)) => other.lose(),
+    }
+}
+
 impl Holding {
-    ghost use Rattle.std.specs.Prelude.{◌≡◌, ◌-◌, ◌≤◌};
+    ghost use Rattle.std.specs.Prelude.{◌≡◌, ◌+◌, ◌-◌, ◌<◌, ◌≤◌, ◌↔◌, IsNone, IfSome, IfNone};
     ghost use Rattle.band_balance.specs.Line.{give_back};
+    ghost use Rattle.band_balance.specs.Object.{Permit};
     ghost use Rattle.band_play.specs.Objects.{IsSteady, Fits};
+    ghost use Rattle.band_play.specs.Step.{same_mode};
 
     /// Gives it back.
     pub(crate) fn drop_to<L: Ledger>(self, object: &mut Object, steps: &mut Steps<L>)
@@ -50,6 +65,74 @@ impl Holding {
             (AnyHolding::Read(access), Primitive::ReaderWriter(lock)) => lock.drop_read(access, steps),
             (AnyHolding::Write(access), Primitive::ReaderWriter(lock)) => lock.drop_write(access, steps),
             (any, _) => Holding { any }.lose(),
+        }
+    }
+
+    /// Whether it is a permit of a semaphore.
+    pub(crate) fn is_permit(&self) -> bool
+        ensures { result ≡ same_mode Permit self.now.mode }
+    {
+        matches!(self.any, AnyHolding::Permit(_))
+    }
+
+    /// The number of its object.
+    pub(crate) fn of(&self) -> u64
+        ensures { result ≡ self.now.of }
+    {
+        match &self.any {
+            AnyHolding::Permit(permit) => permit.of(),
+            AnyHolding::Lock(guard) => guard.of(),
+            AnyHolding::Read(access) => access.of(),
+            AnyHolding::Write(access) => access.of(),
+        }
+    }
+
+    /// Ends a permit, and nothing comes back.
+    pub(crate) fn forget_at(self, object: &mut Object)
+        requires mode { self.mode ≡ Permit }
+        requires number { self.of ≡ object.old.number }
+        requires held { self.count ≤ object.old.held }
+        requires fits { Fits object.old.kind self.mode self.count }
+        ensures state { object.new ≡ record object.old { held = object.old.held - self.count } }
+        ensures steady { IsSteady object.new }
+    {
+        let Holding { any } = self;
+        match (any, &mut object.primitive) {
+            (AnyHolding::Permit(permit), Primitive::Semaphore(semaphore)) => {
+                semaphore.forget(permit)
+            }
+            (any, _) => Holding { any }.lose(),
+        }
+    }
+
+    /// Takes `n` of a permit's into another one, if there are as many.
+    pub(crate) fn split(&mut self, n: u64) -> Option<Holding>
+        requires { self.old.mode ≡ Permit }
+        ensures beyond { IsNone result ↔ (self.old.count < n) }
+        ensures parts { IfSome result (λ part. (part ≡ record self.old { count = n }) × (self.new ≡ record self.old { count = self.old.count - n })) }
+        ensures none { IfNone result (self.new ≡ self.old) }
+    {
+        match &mut self.any {
+            AnyHolding::Permit(permit) => {
+                let any = AnyHolding::Permit(permit.split(n)?);
+                Some(Holding { any })
+            }
+            _ => unreachable!(),
+        }
+    }
+
+    /// Adds another permit of the same semaphore.
+    pub(crate) fn join(&mut self, more: Holding)
+        requires mode { self.old.mode ≡ Permit }
+        requires more { more.mode ≡ Permit }
+        requires same { self.old.of ≡ more.of }
+        requires fits { self.old.count + more.count ≤ u64.MAX }
+        ensures { self.new ≡ record self.old { count = self.old.count + more.count } }
+    {
+        let Holding { any } = more;
+        match (&mut self.any, any) {
+            (AnyHolding::Permit(permit), AnyHolding::Permit(more)) => add_permit(permit, more),
+            (_, any) => Holding { any }.lose(),
         }
     }
 

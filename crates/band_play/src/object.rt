@@ -1,9 +1,12 @@
 //! The objects of a script.
 
-use band_base::Waker;
+use crate::holding::{AnyHolding, Holding};
+use crate::request::{AnyRequest, Request};
+use band_base::{Steps, Waker};
 use band_lock::{MutexState, RwLockState};
-use band_sem::Semaphore;
+use band_sem::{ReduceError, ReleaseError, Semaphore};
 use std::marker::Model;
+use std::sync::ledger::Ledger;
 
 /// What an object is.
 #[derive(Drop)]
@@ -11,6 +14,15 @@ pub(crate) enum Primitive {
     Semaphore(Semaphore),
     Mutex(MutexState),
     ReaderWriter(RwLockState),
+}
+
+/// What a call asks an object for.
+#[derive(Clone, Copy)]
+pub(crate) enum Want {
+    Permits(u64),
+    Lock,
+    Read,
+    Write,
 }
 
 /// An object of a script.
@@ -28,8 +40,13 @@ impl Model for Object {
 }
 
 impl Object {
-    ghost use Rattle.std.specs.Prelude.{◌≡◌, [], ◌∷◌, MatchOption};
+    ghost use Rattle.std.specs.Prelude.{◌≡◌, ◌+◌, ◌<◌, ◌↔◌, [], ◌∷◌, IsTrue, IsSome, IfSome, OnSome, IfNone, IsErrOf, OnOk, OnErr, MatchOption};
+    ghost use Rattle.band_balance.specs.Line.{available, drained, overflows, owes_too_much, is_served, take_permits, give_back};
+    ghost use Rattle.band_balance.specs.Object.{Permit};
+    ghost use Rattle.band_sem.specs.declared.acquire.Stage.{Stage};
     ghost use Rattle.band_play.specs.Objects.{shares_of, IsSteady};
+    ghost use Rattle.band_play.specs.Moves.{mode_of, size_for};
+    ghost use Rattle.band_play.specs.Step.{is_of};
 
     /// Its permits or shares.
     pub(crate) fn semaphore(&self) -> &Semaphore
@@ -39,6 +56,105 @@ impl Object {
             Primitive::Semaphore(semaphore) => semaphore,
             Primitive::Mutex(mutex) => mutex.semaphore(),
             Primitive::ReaderWriter(lock) => lock.semaphore(),
+        }
+    }
+
+    /// Whether this can be asked of it.
+    pub(crate) fn offers(&self, want: Want) -> bool
+        ensures { result ≡ is_of self.now.kind (mode_of want) }
+    {
+        matches!(
+            (&self.primitive, want),
+            (Primitive::Semaphore(_), Want::Permits(_))
+                | (Primitive::Mutex(_), Want::Lock)
+                | (Primitive::ReaderWriter(_), Want::Read | Want::Write)
+        )
+    }
+
+    /// A request for what it offers, not polled yet.
+    pub(crate) fn request(&self, want: Want) -> Request
+        requires { IsTrue (is_of self.now.kind (mode_of want)) }
+        ensures { result ≡ record { mode = mode_of want; of = self.now.number; size = size_for want self.now.kind; stage = Stage.NotPolled } }
+    {
+        let any = match (&self.primitive, want) {
+            (Primitive::Semaphore(semaphore), Want::Permits(n)) => {
+                AnyRequest::Permit(semaphore.acquire(n))
+            }
+            (Primitive::Mutex(mutex), Want::Lock) => AnyRequest::Lock(mutex.lock()),
+            (Primitive::ReaderWriter(lock), Want::Read) => AnyRequest::Read(lock.read()),
+            (Primitive::ReaderWriter(lock), Want::Write) => AnyRequest::Write(lock.write()),
+            _ => unreachable!(),
+        };
+        Request { any }
+    }
+
+    /// Takes what it offers without waiting.
+    pub(crate) fn try_take(&mut self, want: Want) -> Option<Holding>
+        requires { IsTrue (is_of self.old.kind (mode_of want)) }
+        ensures served { IsSome result ↔ IsTrue (is_served (size_for want self.old.kind) self.old.line) }
+        ensures holding { IfSome result (λ holding. holding ≡ record { mode = mode_of want; of = self.old.number; count = size_for want self.old.kind }) }
+        ensures some { OnSome result (self.new ≡ record self.old { line = take_permits (size_for want self.old.kind) self.old.line; held = self.old.held + size_for want self.old.kind }) }
+        ensures none { IfNone result (self.new ≡ self.old) }
+        ensures steady { IsSteady self.new }
+    {
+        let any = match (&mut self.primitive, want) {
+            (Primitive::Semaphore(semaphore), Want::Permits(n)) => {
+                AnyHolding::Permit(semaphore.try_acquire(n)?)
+            }
+            (Primitive::Mutex(mutex), Want::Lock) => AnyHolding::Lock(mutex.try_lock()?),
+            (Primitive::ReaderWriter(lock), Want::Read) => AnyHolding::Read(lock.try_read()?),
+            (Primitive::ReaderWriter(lock), Want::Write) => AnyHolding::Write(lock.try_write()?),
+            _ => unreachable!(),
+        };
+        Some(Holding { any })
+    }
+
+    /// Adds permits to a semaphore.
+    pub(crate) fn release<L: Ledger>(
+        &mut self,
+        n: u64,
+        steps: &mut Steps<L>,
+    ) -> Result<(), ReleaseError>
+        requires { IsTrue (is_of self.old.kind Permit) }
+        ensures overflow { IsErrOf result ReleaseError.Overflow ↔ IsTrue (overflows n self.old.line self.old.held) }
+        ensures ok { OnOk result (self.new ≡ record self.old { line = give_back n self.old.line }) }
+        ensures err { OnErr result (self.new ≡ self.old) }
+        ensures steady { IsSteady self.new }
+    {
+        match &mut self.primitive {
+            Primitive::Semaphore(semaphore) => semaphore.release(n, steps),
+            _ => unreachable!(),
+        }
+    }
+
+    /// Takes permits away from a semaphore.
+    pub(crate) fn reduce<L: Ledger>(
+        &mut self,
+        n: u64,
+        steps: &mut Steps<L>,
+    ) -> Result<(), ReduceError>
+        requires { IsTrue (is_of self.old.kind Permit) }
+        ensures debt { IsErrOf result ReduceError.Debt ↔ IsTrue (owes_too_much n self.old.line) }
+        ensures ok { OnOk result (self.new ≡ record self.old { line = take_permits n self.old.line }) }
+        ensures err { OnErr result (self.new ≡ self.old) }
+        ensures steady { IsSteady self.new }
+    {
+        match &mut self.primitive {
+            Primitive::Semaphore(semaphore) => semaphore.reduce_permits(n, steps),
+            _ => unreachable!(),
+        }
+    }
+
+    /// Takes away what a semaphore has available.
+    pub(crate) fn drain(&mut self, n: u64) -> u64
+        requires { IsTrue (is_of self.old.kind Permit) }
+        ensures count { result ≡ drained n self.old.line }
+        ensures state { self.new ≡ record self.old { line = take_permits result self.old.line } }
+        ensures steady { IsSteady self.new }
+    {
+        match &mut self.primitive {
+            Primitive::Semaphore(semaphore) => semaphore.drain_permits(n),
+            _ => unreachable!(),
         }
     }
 

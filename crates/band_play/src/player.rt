@@ -2,6 +2,7 @@
 ghost use Rattle.std.proofs.Props.{props};
 ghost use Rattle.band_play.specs.Kept.{IsSound};
 
+use crate::object::Want;
 use crate::table::Table;
 use crate::{Call, Reply};
 use band_base::{Steps, Waker};
@@ -46,11 +47,12 @@ impl Player {
         match call {
             Call::Sem { made, n } => self.table.make_semaphore(self.alloc, made, *n),
             Call::Ask { made, of, n, waker } => {
-                self.table.ask(made, of, *n, Waker(*waker), steps)
+                self.table
+                    .ask(Want::Permits(*n), made, of, Waker(*waker), steps)
             }
             Call::Poll { name, waker } => Ok(self.table.poll(name, Waker(*waker), steps)),
             Call::Drop { name } => Ok(self.table.drop_name(name, steps)),
-            Call::Try { made, of, n } => self.table.try_for(made, of, *n),
+            Call::Try { made, of, n } => self.table.try_for(Want::Permits(*n), made, of),
             Call::Release { of, n } => Ok(self.table.release(of, *n, steps)),
             Call::Reduce { of, n } => self.table.reduce(of, *n, steps),
             Call::Drain { of, n } => Ok(self.table.drain(of, *n)),

@@ -1,20 +1,21 @@
 //! What the player keeps: the names, and the objects by place.
 ghost use Rattle.std.specs.Prelude.{◌≡◌, ◌+◌, ◌≤◌, [], OnOk, IfOk, IsOk, OnErr, IfNone, IfSome, MatchOption, MatchResult, ◌∷◌, ◌<◌, length, None, Some, Ok, Err};
-ghost use Rattle.band_balance.specs.Object.{new_semaphore};
-ghost use Rattle.band_sem.specs.declared.acquire.Stage.{Stage};
+ghost use Rattle.band_balance.specs.Object.{Permit, new_semaphore};
 ghost use Rattle.band_play.specs.Step.{making, asking, polling, dropping, trying, releasing, reducing, draining, showing, forgetting, splitting, merging};
 ghost use Rattle.band_play.specs.State.{standing};
 ghost use Rattle.band_play.specs.Names.{thing_at};
 ghost use Rattle.std.specs.BTreeMap.{IsUnchanged};
 ghost use Rattle.band_play.specs.declared.thing.Thing.{Thing as AnyThing};
-ghost use Rattle.band_play.specs.Moves.{PollsRequest, PollsName, IsFit, IsNumbered, object_of, permit_of, SplitsOff, FallsShort, mergeable, CanGrow, Grows};
+ghost use Rattle.band_play.specs.Moves.{AsksFirst, IsOffered, PollsName, IsFit, mode_of, size_for, object_of, held_as, SplitsOff, FallsShort, mergeable, CanGrow, Grows};
 ghost use Rattle.band_play.specs.Kept.{StandsFor, IsSound, Follows, Stays, Remains, wakes_left};
 
+use crate::holding::Holding;
 use crate::names::{self, Names};
+use crate::object::{Object, Primitive, Want};
 use crate::thing::Thing;
 use crate::{Name, Reply};
 use band_base::{Poll, Steps, Waker};
-use band_sem::{MergeError, ReduceError, Refusal, Semaphore, SemaphorePermit};
+use band_sem::{ReduceError, Refusal, Semaphore};
 use std::alloc::{AllocError, Global};
 use std::collections::BTreeMap;
 use std::mem;
@@ -23,7 +24,7 @@ use std::sync::ledger::Ledger;
 /// The names, the objects, and which of the objects was called last.
 pub(crate) struct Table {
     names: Names,
-    objects: Vec<Semaphore>,
+    objects: Vec<Object>,
     last: u64,
 }
 
@@ -39,28 +40,27 @@ fn object_at(names: &Names, name: &Name) -> Result<u64, Refusal>
 }
 
 /// The permit with this name.
-fn permit_at<'a>(names: &'a Names, name: &Name) -> Result<&'a SemaphorePermit, Refusal>
+fn permit_at<'a>(names: &'a Names, name: &Name) -> Result<&'a Holding, Refusal>
     ensures { MatchResult result
-        (λ permit. permit_of (thing_at names.now name.now) ≡ Ok permit.now)
-        (λ refusal. permit_of (thing_at names.now name.now) ≡ Err refusal) }
+        (λ permit. held_as Permit (thing_at names.now name.now) ≡ Ok permit.now)
+        (λ refusal. held_as Permit (thing_at names.now name.now) ≡ Err refusal) }
 {
     match names.get(name) {
         None => Err(Refusal::Unknown),
-        Some(Thing::Permit(permit)) => Ok(permit),
-        Some(_) => Err(Refusal::Kind),
+        Some(thing) => thing.as_permit(),
     }
 }
 
 /// Takes `n` permits out of the permit with this name, if it has as many.
-fn split_off(names: &mut Names, name: &Name, n: u64) -> Option<SemaphorePermit>
-    requires { IsOk (permit_of (thing_at names.old name.now)) }
+fn split_off(names: &mut Names, name: &Name, n: u64) -> Option<Holding>
+    requires { IsOk (held_as Permit (thing_at names.old name.now)) }
     ensures some { IfSome result (λ part. SplitsOff name.now n (thing_at names.old) (thing_at names.new) part) }
     ensures none { IfNone result (FallsShort name.now n (thing_at names.old) (thing_at names.new)) }
 {
     let slot = names.get_mut(name).unwrap();
     let mut permit = mem::replace(slot, Thing::Object(0)).into_permit();
     let part = permit.split(n);
-    mem::replace(slot, Thing::Permit(permit)).lose();
+    mem::replace(slot, Thing::Holding(permit)).lose();
     part
 }
 
@@ -68,63 +68,52 @@ fn split_off(names: &mut Names, name: &Name, n: u64) -> Option<SemaphorePermit>
 fn mergeable(names: &Names, kept: &Name, spent: &Name) -> Result<u64, Refusal>
     ensures { result ≡ mergeable kept.now spent.now (thing_at names.now kept.now) (thing_at names.now spent.now) }
 {
-    match (names.get(kept), names.get(spent)) {
-        (None, _) | (_, None) => Err(Refusal::Unknown),
-        (Some(Thing::Permit(first)), Some(Thing::Permit(second))) => {
-            if kept == spent {
-                Err(Refusal::Same)
-            } else if first.of() == second.of() {
-                Ok(first.of())
-            } else {
-                Err(Refusal::Other)
-            }
-        }
-        _ => Err(Refusal::Kind),
+    let (Some(first), Some(second)) = (names.get(kept), names.get(spent)) else {
+        return Err(Refusal::Unknown);
+    };
+    let (first, second) = match (first.as_permit(), second.as_permit()) {
+        (Ok(first), Ok(second)) => (first, second),
+        (Err(refusal), _) | (_, Err(refusal)) => return Err(refusal),
+    };
+    if kept == spent {
+        Err(Refusal::Same)
+    } else if first.of() == second.of() {
+        Ok(first.of())
+    } else {
+        Err(Refusal::Other)
     }
 }
 
 /// Adds a permit to the one with this name.
-fn grow(names: &mut Names, name: &Name, more: SemaphorePermit)
+fn grow(names: &mut Names, name: &Name, more: Holding)
     requires { CanGrow (thing_at names.old name.now) more }
     ensures { Grows name.now (thing_at names.old) (thing_at names.new) more }
 {
     let slot = names.get_mut(name).unwrap();
     let mut permit = mem::replace(slot, Thing::Object(0)).into_permit();
-    join(&mut permit, more);
-    mem::replace(slot, Thing::Permit(permit)).lose();
-}
-
-/// Adds a permit of the same semaphore.
-fn join(permit: &mut SemaphorePermit, more: SemaphorePermit)
-    requires same { permit.old.of ≡ more.of }
-    requires fits { permit.old.count + more.count ≤ u64.MAX }
-    ensures { permit.new ≡ record permit.old { count = permit.old.count + more.count } }
-{
-    match permit.merge(more) {
-        Ok(()) => {}
-        Err(MergeError::OtherSemaphore(other)) => other.lose(),
-    }
+    permit.join(more);
+    mem::replace(slot, Thing::Holding(permit)).lose();
 }
 
 /// Polls a new request of the object at a place.
 fn first_poll<L: Ledger>(
-    objects: &mut Vec<Semaphore>,
+    objects: &mut Vec<Object>,
     place: u64,
-    n: u64,
+    want: Want,
     waker: Waker,
     steps: &mut Steps<L>,
 ) -> Result<(Thing, Reply), AllocError>
     requires there { place < length objects.old.items }
-    requires numbered { IsNumbered objects.old.items place }
-    ensures ok { IfOk result (λ made. PollsRequest place (record { of = place; size = n; stage = Stage.NotPolled }) waker.0 objects.old.items made.0 made.1 objects.new.items) }
+    requires offered { IsOffered objects.old.items place want }
+    ensures ok { IfOk result (λ made. AsksFirst place want waker.0 objects.old.items made.0 made.1 objects.new.items) }
     ensures err { OnErr result (objects.new.items ≡ objects.old.items) }
 {
-    let semaphore = &mut objects[place as usize];
-    let mut request = semaphore.acquire(n);
-    match request.poll_once(semaphore, waker, steps) {
-        Ok(Poll::Ready(permit)) => {
+    let object = &mut objects[place as usize];
+    let mut request = object.request(want);
+    match request.poll_once(object, waker, steps) {
+        Ok(Poll::Ready(holding)) => {
             request.lose();
-            Ok((Thing::Permit(permit), Reply::Ready))
+            Ok((Thing::Holding(holding), Reply::Ready))
         }
         Ok(Poll::Pending) => Ok((Thing::Request { of: place, request }, Reply::Pending)),
         Err(_) => {
@@ -137,7 +126,7 @@ fn first_poll<L: Ledger>(
 /// Polls what a name is, and answers the place of its object and the reply. None where the name isn't live.
 fn poll_name<L: Ledger>(
     names: &mut Names,
-    objects: &mut Vec<Semaphore>,
+    objects: &mut Vec<Object>,
     name: &Name,
     waker: Waker,
     steps: &mut Steps<L>,
@@ -188,22 +177,23 @@ impl Table {
         self.objects.reserve(1)?;
         names::reserve(&mut self.names, made)?;
         names::set(&mut self.names, made, Thing::Object(place));
-        self.objects.push(Semaphore::new(alloc, place, n)).unwrap();
+        let primitive = Primitive::Semaphore(Semaphore::new(alloc, place, n));
+        self.objects.push(Object { primitive }).unwrap();
         Ok(Reply::Done)
     }
 
-    /// Makes a request for `n` permits of a semaphore and polls it first.
+    /// Makes a request of an object and polls it first.
     pub(crate) fn ask<L: Ledger>(
         &mut self,
+        want: Want,
         made: &Name,
         of: &Name,
-        n: u64,
         waker: Waker,
         steps: &mut Steps<L>,
     ) -> Result<Reply, AllocError>
         requires sound { IsSound self.old }
         requires quiet { wakes_left self.old ≡ [] }
-        ensures follows { IfOk result (λ reply. Follows (λ state. asking (standing of.now state) made.now n waker.0 state) self.old reply self.new) }
+        ensures follows { IfOk result (λ reply. Follows (λ state. asking (mode_of want) (size_for want) (standing of.now state) made.now waker.0 state) self.old reply self.new) }
         ensures err { OnErr result (Stays self.old self.new) }
         ensures sound { IsSound self.new }
     {
@@ -211,11 +201,14 @@ impl Table {
             Ok(place) => place,
             Err(refusal) => return Ok(Reply::Refused(refusal)),
         };
+        if !self.objects[place as usize].offers(want) {
+            return Ok(Reply::Refused(Refusal::Kind));
+        }
         if names::is_live(&self.names, made) {
             return Ok(Reply::Refused(Refusal::Taken));
         }
         names::reserve(&mut self.names, made)?;
-        match first_poll(&mut self.objects, place, n, waker, steps) {
+        match first_poll(&mut self.objects, place, want, waker, steps) {
             Ok((thing, reply)) => {
                 names::set(&mut self.names, made, thing);
                 self.last = place;
@@ -267,11 +260,16 @@ impl Table {
         Reply::Done
     }
 
-    /// Takes permits of a semaphore without waiting.
-    pub(crate) fn try_for(&mut self, made: &Name, of: &Name, n: u64) -> Result<Reply, AllocError>
+    /// Takes permits or a guard without waiting.
+    pub(crate) fn try_for(
+        &mut self,
+        want: Want,
+        made: &Name,
+        of: &Name,
+    ) -> Result<Reply, AllocError>
         requires sound { IsSound self.old }
         requires quiet { wakes_left self.old ≡ [] }
-        ensures follows { IfOk result (λ reply. Follows (λ state. trying (standing of.now state) made.now n state) self.old reply self.new) }
+        ensures follows { IfOk result (λ reply. Follows (λ state. trying (mode_of want) (size_for want) (standing of.now state) made.now state) self.old reply self.new) }
         ensures err { OnErr result (Stays self.old self.new) }
         ensures sound { IsSound self.new }
     {
@@ -279,14 +277,16 @@ impl Table {
             Ok(place) => place,
             Err(refusal) => return Ok(Reply::Refused(refusal)),
         };
+        if !self.objects[place as usize].offers(want) {
+            return Ok(Reply::Refused(Refusal::Kind));
+        }
         if names::is_live(&self.names, made) {
             return Ok(Reply::Refused(Refusal::Taken));
         }
         names::reserve(&mut self.names, made)?;
-        let semaphore = &mut self.objects[place as usize];
-        match semaphore.try_acquire(n) {
-            Some(permit) => {
-                names::set(&mut self.names, made, Thing::Permit(permit));
+        match self.objects[place as usize].try_take(want) {
+            Some(holding) => {
+                names::set(&mut self.names, made, Thing::Holding(holding));
                 self.last = place;
                 Ok(Reply::Done)
             }
@@ -308,9 +308,12 @@ impl Table {
             Ok(place) => place,
             Err(refusal) => return Reply::Refused(refusal),
         };
+        let object = &mut self.objects[place as usize];
+        if !object.offers(Want::Permits(n)) {
+            return Reply::Refused(Refusal::Kind);
+        }
         self.last = place;
-        let semaphore = &mut self.objects[place as usize];
-        match semaphore.release(n, steps) {
+        match object.release(n, steps) {
             Ok(()) => Reply::Done,
             Err(_) => Reply::Refused(Refusal::Overflow),
         }
@@ -333,9 +336,12 @@ impl Table {
             Ok(place) => place,
             Err(refusal) => return Ok(Reply::Refused(refusal)),
         };
+        let object = &mut self.objects[place as usize];
+        if !object.offers(Want::Permits(n)) {
+            return Ok(Reply::Refused(Refusal::Kind));
+        }
         self.last = place;
-        let semaphore = &mut self.objects[place as usize];
-        match semaphore.reduce_permits(n, steps) {
+        match object.reduce(n, steps) {
             Ok(()) => Ok(Reply::Done),
             Err(ReduceError::Debt) => Ok(Reply::Refused(Refusal::Debt)),
             Err(ReduceError::NoMemory) => Err(AllocError),
@@ -353,9 +359,12 @@ impl Table {
             Ok(place) => place,
             Err(refusal) => return Reply::Refused(refusal),
         };
+        let object = &mut self.objects[place as usize];
+        if !object.offers(Want::Permits(n)) {
+            return Reply::Refused(Refusal::Kind);
+        }
         self.last = place;
-        let semaphore = &mut self.objects[place as usize];
-        Reply::Drained(semaphore.drain_permits(n))
+        Reply::Drained(object.drain(n))
     }
 
     /// The figures of an object.
@@ -368,7 +377,7 @@ impl Table {
             Ok(place) => place,
             Err(refusal) => return Reply::Refused(refusal),
         };
-        let semaphore = &self.objects[place as usize];
+        let semaphore = self.objects[place as usize].semaphore();
         Reply::Figures {
             available: semaphore.available_permits(),
             free: semaphore.free(),
@@ -391,8 +400,7 @@ impl Table {
         let permit = names::remove(&mut self.names, name).unwrap().into_permit();
         let place = permit.of();
         self.last = place;
-        let semaphore = &mut self.objects[place as usize];
-        semaphore.forget(permit);
+        permit.forget_at(&mut self.objects[place as usize]);
         Reply::Done
     }
 
@@ -414,7 +422,7 @@ impl Table {
         match split_off(&mut self.names, name, n) {
             Some(part) => {
                 self.last = part.of();
-                names::set(&mut self.names, made, Thing::Permit(part));
+                names::set(&mut self.names, made, Thing::Holding(part));
                 Ok(Reply::Done)
             }
             None => {
@@ -452,8 +460,7 @@ impl Table {
     {
         let last = self.last as usize;
         if last < self.objects.len() {
-            let semaphore = &mut self.objects[last];
-            return semaphore.take_wake();
+            return self.objects[last].take_wake();
         }
         None
     }

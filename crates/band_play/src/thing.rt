@@ -1,10 +1,14 @@
 //! What a name stands for in the player's table.
-ghost use Rattle.std.specs.Prelude.{◌≡◌, ◌<◌, length, IsOk, Some, Ok};
-ghost use Rattle.band_play.specs.Moves.{IsFit, PollsThing, DropsThing, place_at, permit_of};
+ghost use Rattle.std.specs.Prelude.{◌≡◌, IsOk, Some, Ok, MatchResult, Err};
+ghost use Rattle.band_balance.specs.Object.{Permit};
+ghost use Rattle.band_play.specs.Moves.{IsFit, PollsThing, DropsThing, place_at, held_as};
 
 use crate::Reply;
+use crate::holding::Holding;
+use crate::object::Object;
+use crate::request::Request;
 use band_base::{Poll, Steps, Waker};
-use band_sem::{Acquire, Refusal, Semaphore, SemaphorePermit};
+use band_sem::Refusal;
 use std::sync::ledger::Ledger;
 
 /// What a live name is.
@@ -12,16 +16,16 @@ pub(crate) enum Thing {
     /// The object at this place.
     Object(u64),
     /// A request that is in the line of the object at a place.
-    Request { of: u64, request: Acquire },
-    /// A permit that is held.
-    Permit(SemaphorePermit),
+    Request { of: u64, request: Request },
+    /// A permit or a guard.
+    Holding(Holding),
 }
 
 impl Thing {
     /// Polls the request that this is. Nothing else can be polled.
     pub(crate) fn poll<L: Ledger>(
         self,
-        objects: &mut Vec<Semaphore>,
+        objects: &mut Vec<Object>,
         waker: Waker,
         steps: &mut Steps<L>,
     ) -> (Thing, Reply)
@@ -30,13 +34,15 @@ impl Thing {
     {
         match self {
             Thing::Object(place) => (Thing::Object(place), Reply::Refused(Refusal::Kind)),
-            Thing::Permit(permit) => (Thing::Permit(permit), Reply::Refused(Refusal::Finished)),
+            Thing::Holding(holding) => {
+                (Thing::Holding(holding), Reply::Refused(Refusal::Finished))
+            }
             Thing::Request { of, mut request } => {
-                let semaphore = &mut objects[of as usize];
-                match request.poll_once(semaphore, waker, steps) {
-                    Ok(Poll::Ready(permit)) => {
+                let object = &mut objects[of as usize];
+                match request.poll_once(object, waker, steps) {
+                    Ok(Poll::Ready(holding)) => {
                         request.lose();
-                        (Thing::Permit(permit), Reply::Ready)
+                        (Thing::Holding(holding), Reply::Ready)
                     }
                     Ok(Poll::Pending) => (Thing::Request { of, request }, Reply::Pending),
                     Err(_) => unreachable!(),
@@ -45,21 +51,19 @@ impl Thing {
         }
     }
 
-    /// Lets go of the request or permit that this is. An object stays.
-    pub(crate) fn drop_from<L: Ledger>(self, objects: &mut Vec<Semaphore>, steps: &mut Steps<L>)
+    /// Lets go of the request or holding that this is. An object stays.
+    pub(crate) fn drop_from<L: Ledger>(self, objects: &mut Vec<Object>, steps: &mut Steps<L>)
         requires { IsFit objects.old.items self }
         ensures { DropsThing self objects.old.items objects.new.items }
     {
         match self {
             Thing::Object(_) => {}
-            Thing::Permit(permit) => {
-                let of = permit.of();
-                let semaphore = &mut objects[of as usize];
-                semaphore.drop_permit(permit, steps);
+            Thing::Holding(holding) => {
+                let of = holding.of();
+                holding.drop_to(&mut objects[of as usize], steps);
             }
             Thing::Request { of, request } => {
-                let semaphore = &mut objects[of as usize];
-                request.cancel(semaphore, steps);
+                request.cancel(&mut objects[of as usize], steps);
             }
         }
     }
@@ -71,17 +75,29 @@ impl Thing {
         match self {
             Thing::Object(place) => *place,
             Thing::Request { of, request: _ } => *of,
-            Thing::Permit(permit) => permit.of(),
+            Thing::Holding(holding) => holding.of(),
         }
     }
 
-    /// The permit that this is.
-    pub(crate) fn into_permit(self) -> SemaphorePermit
-        requires { IsOk (permit_of (Some self)) }
-        ensures { permit_of (Some self) ≡ Ok result }
+    /// The permit of a semaphore that this is.
+    pub(crate) fn as_permit(&self) -> Result<&Holding, Refusal>
+        ensures { MatchResult result
+            (λ holding. held_as Permit (Some self.now) ≡ Ok holding.now)
+            (λ refusal. held_as Permit (Some self.now) ≡ Err refusal) }
     {
         match self {
-            Thing::Permit(permit) => permit,
+            Thing::Holding(holding) if holding.is_permit() => Ok(holding),
+            _ => Err(Refusal::Kind),
+        }
+    }
+
+    /// The permit of a semaphore that this is.
+    pub(crate) fn into_permit(self) -> Holding
+        requires { IsOk (held_as Permit (Some self)) }
+        ensures { held_as Permit (Some self) ≡ Ok result }
+    {
+        match self {
+            Thing::Holding(holding) => holding,
             _ => unreachable!(),
         }
     }
@@ -90,7 +106,7 @@ impl Thing {
     pub(crate) fn lose(self) {
         match self {
             Thing::Object(_) => {}
-            Thing::Permit(permit) => permit.lose(),
+            Thing::Holding(holding) => holding.lose(),
             Thing::Request { of: _, request } => request.lose(),
         }
     }
