@@ -3,7 +3,7 @@ use Rattle.std.proofs.Common.{◌≡◌, ℕ, Bool, false, true, zero, suc, List
 use Rattle.std.specs.Prelude.{ℤ}
 use Rattle.std.specs.List.{slice_get, slice_set}
 use Rattle.std.proofs.lemmas.Option.{same_Some}
-use Rattle.band_sem.specs.Semaphore.{SemaphoreState}
+use Rattle.band_play.specs.Objects.{ObjectState}
 use Rattle.band_sem.specs.declared.refusal.Refusal.{Refusal}
 use Rattle.band_sem.specs.declared.errors.ReleaseError.{ReleaseError}
 use Rattle.band_sem.specs.declared.errors.ReleaseError.TheVariants.{Overflow}
@@ -31,28 +31,28 @@ module _ (old : Table) (sound : IsSound old) (none : wakes_left old ≡ []) wher
   abbrev at_old : List ℕ → Option Thing
   at_old = thing_at old.names
 
-  abbrev sems : List SemaphoreState
+  abbrev sems : List ObjectState
   sems = old.objects.items
 
-  quiet : (k : ℕ) (s : SemaphoreState) → slice_get sems k ≡ Some s → s.line.wakes ≡ []
+  quiet : (k : ℕ) (s : ObjectState) → slice_get sems k ≡ Some s → s.line.wakes ≡ []
   quiet = quiet_all old sound none
 
-  pub quiet_there : (place : ℕ) (s : SemaphoreState) → slice_get sems place ≡ Some s → s.line.wakes ≡ []
+  pub quiet_there : (place : ℕ) (s : ObjectState) → slice_get sems place ≡ Some s → s.line.wakes ≡ []
   quiet_there = quiet
 
-  none_now : (new : Table) → new.objects.items ≡ sems → (o : Option SemaphoreState) → slice_get sems new.last ≡ o → wakes_of o ≡ []
+  none_now : (new : Table) → new.objects.items ≡ sems → (o : Option ObjectState) → slice_get sems new.last ≡ o → wakes_of o ≡ []
   none_now new objects None is = refl
   none_now new objects (Some s) is = quiet new.last s is
 
   pub no_wakes : (new : Table) → new.objects.items ≡ sems → wakes_left new ≡ []
-  no_wakes new objects = ap (λ (s : List SemaphoreState). wakes_of (slice_get s new.last)) objects ∙ none_now new objects (slice_get sems new.last) refl
+  no_wakes new objects = ap (λ (s : List ObjectState). wakes_of (slice_get s new.last)) objects ∙ none_now new objects (slice_get sems new.last) refl
 
   -- a refused call, whichever object was called last
   pub refuses : (call : State → Outcome) (refusal : Refusal) (new : Table) → ((n : List ℕ) → thing_at new.names n ≡ at_old n) → new.objects.items ≡ sems
       → ((names : ℕ → ℕ → Tag) (state : State) → StandsUnder names at_old sems state → call state ≡ refused refusal state)
       → Follows call old (replies.Refused refusal) new
   refuses call refusal new names objects is state stands =
-      subst (λ (s : List SemaphoreState). Matches (call state) (replies.Refused refusal) (thing_at new.names) new.last s) (sym objects)
+      subst (λ (s : List ObjectState). Matches (call state) (replies.Refused refusal) (thing_at new.names) new.last s) (sym objects)
       (refused_follows stands.0 (thing_at new.names) sems state new.last (call state) refusal
       (unchanged_table stands.0 at_old (thing_at new.names) sems state names stands.1)
       (quiet_at stands.0 at_old sems state stands.1 quiet new.last)
@@ -62,13 +62,13 @@ module _ (old : Table) (sound : IsSound old) (none : wakes_left old ≡ []) wher
   pub still_sound : (new : Table) → ((n : List ℕ) → thing_at new.names n ≡ at_old n) → new.objects.items ≡ sems → IsSound new
   still_sound new names objects =
       sound_still old new sound (remains old new names objects)
-      (subst (λ (s : List SemaphoreState). OthersQuiet new.last s) (sym objects) (λ k s apart there. quiet k s there))
+      (subst (λ (s : List ObjectState). OthersQuiet new.last s) (sym objects) (λ k s apart there. quiet k s there))
 
   pub still_stays : (new : Table) → ((n : List ℕ) → thing_at new.names n ≡ at_old n) → new.objects.items ≡ sems → Stays old new
   still_stays new names objects = (remains old new names objects, no_wakes new objects ∙ sym none)
 
   -- a call that changes nothing
-  pub shows : (call : State → Outcome) (reply : Reply) (new : Table) (place : ℕ) (sem : SemaphoreState) → slice_get sems place ≡ Some sem
+  pub shows : (call : State → Outcome) (reply : Reply) (new : Table) (place : ℕ) (sem : ObjectState) → slice_get sems place ≡ Some sem
       → ((n : List ℕ) → thing_at new.names n ≡ at_old n) → new.objects.items ≡ sems
       → ((names : ℕ → ℕ → Tag) (state : State) → StandsUnder names at_old sems state → Matches (call state) reply at_old place (slice_set sems place sem))
       → Follows call old reply new
@@ -78,25 +78,25 @@ module _ (old : Table) (sound : IsSound old) (none : wakes_left old ≡ []) wher
         no_wakes new objects ∙ sym (ap wakes_of (at_set_same sems place sem sem there) ∙ quiet place sem there) ∙ told.1,
         (
           told.2.0,
-          subst (λ (s : List SemaphoreState). StandsUnder told.2.0 (thing_at new.names) s (call state).state) (sym objects)
+          subst (λ (s : List ObjectState). StandsUnder told.2.0 (thing_at new.names) s (call state).state) (sym objects)
               (unchanged_table told.2.0 at_old (thing_at new.names) sems (call state).state names
-              (subst (λ (s : List SemaphoreState). StandsUnder told.2.0 at_old s (call state).state) (set_itself sems place sem there) told.2.1)),
+              (subst (λ (s : List ObjectState). StandsUnder told.2.0 at_old s (call state).state) (set_itself sems place sem there) told.2.1)),
         ),
       )
 
-  module _ (call : State → Outcome) (reply : Reply) (new : Table) (place : ℕ) (after : SemaphoreState)
+  module _ (call : State → Outcome) (reply : Reply) (new : Table) (place : ℕ) (after : ObjectState)
       (objects : new.objects.items ≡ slice_set sems place after) (last : new.last ≡ place)
       (does : (names : ℕ → ℕ → Tag) (state : State) → StandsUnder names at_old sems state → Matches (call state) reply (thing_at new.names) place (slice_set sems place after)) where
     pub call_follows : Follows call old reply new
     call_follows state stands =
-        subst (λ (s : List SemaphoreState). Matches (call state) reply (thing_at new.names) new.last s) (sym objects)
+        subst (λ (s : List ObjectState). Matches (call state) reply (thing_at new.names) new.last s) (sym objects)
         (subst (λ k. Matches (call state) reply (thing_at new.names) k (slice_set sems place after)) (sym last) (does stands.0 state stands.1))
 
     pub call_sound : IsSound new
     call_sound =
         sound_after call old reply new sound call_follows
         (subst (λ k. OthersQuiet k new.objects.items) (sym last)
-        (subst (λ (s : List SemaphoreState). OthersQuiet place s) (sym objects) (others_quiet sems place after quiet)))
+        (subst (λ (s : List ObjectState). OthersQuiet place s) (sym objects) (others_quiet sems place after quiet)))
 
 -- a test that can't be true is false
 pub refuted : (b : Bool) → (b ≡ true → ⊥) → b ≡ false

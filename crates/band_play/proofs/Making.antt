@@ -5,8 +5,9 @@ use Rattle.std.specs.Str.{bytes_eq}
 use Rattle.std.proofs.lemmas.Int.{ints}
 use Rattle.std.proofs.lemmas.Option.{none-some, same_Some, slice_get_within}
 use Rattle.band_balance.specs.Line.{open_line}
-use Rattle.band_balance.specs.Object.{new_semaphore}
-use Rattle.band_sem.specs.Semaphore.{SemaphoreState, IsLawful}
+use Rattle.band_balance.specs.Object.{Object, Kind}
+use Rattle.band_sem.specs.Semaphore.{IsLawful}
+use Rattle.band_play.specs.Objects.{ObjectState, IsSteady}
 use Rattle.band_sem.specs.declared.refusal.Refusal.TheVariants as refusals
 use Rattle.band_play.specs.declared.reply.Reply.TheVariants as replies
 use Rattle.band_play.specs.declared.thing.Thing.{Thing}
@@ -54,20 +55,23 @@ lawful_start n fits = record {
   owed = omega (arith, ints);
 }
 
--- a semaphore of n at a place
-abbrev pub fresh : ℕ → ℕ → SemaphoreState
-fresh place n = record { number = place; line = open_line n; held = 0 }
+-- an object of n at a place, that nobody called
+abbrev pub fresh : Kind → ℕ → ℕ → ObjectState
+fresh kind place n = record { kind = kind; number = place; line = open_line n; held = 0 }
 
-module _ (names : ℕ → ℕ → Tag) (table : List ℕ → Option Thing) (sems : List SemaphoreState) (state : State) (stands : StandsUnder names table sems state) where
-  module _ (table' : List ℕ → Option Thing) (made : List ℕ) (n : ℕ) (fits : n < 2 ^ 64) (absent : table made ≡ None)
+abbrev pub unused : Kind → ℕ → Object Tag
+unused kind n = record { kind = kind; line = open_line n; held = [] }
+
+module _ (names : ℕ → ℕ → Tag) (table : List ℕ → Option Thing) (sems : List ObjectState) (state : State) (stands : StandsUnder names table sems state) where
+  module _ (table' : List ℕ → Option Thing) (kind : Kind) (made : List ℕ) (n : ℕ) (steady : IsSteady (fresh kind (length sems) n)) (absent : table made ≡ None)
       (update : Updated table table' made (Some (things.Object (length sems)))) where
-    abbrev new : SemaphoreState
-    new = fresh (length sems) n
+    abbrev new : ObjectState
+    new = fresh kind (length sems) n
 
     abbrev named : Named
-    named = record { name = made; object = new_semaphore n }
+    named = record { name = made; object = unused kind n }
 
-    each_there : (place : ℕ) (s : SemaphoreState) (o : Named) → (slice_get sems place ≡ Some s) ⊎ ((place ≡ length sems) × (new ≡ s)) → (slice_get state place ≡ Some o) ⊎ ((place ≡ length state) × (named ≡ o)) → StandsAt table' (names place) place s o
+    each_there : (place : ℕ) (s : ObjectState) (o : Named) → (slice_get sems place ≡ Some s) ⊎ ((place ≡ length sems) × (new ≡ s)) → (slice_get state place ≡ Some o) ⊎ ((place ≡ length state) × (named ≡ o)) → StandsAt table' (names place) place s o
     each_there place s o (inl at_sem) (inl at_named) =
         stands_still update (names place) place s o (λ e. none-some place (sym (ap place_of absent) ∙ e)) (stands.each place s o at_sem at_named)
     each_there place s o (inl at_sem) (inr (last, is)) =
@@ -75,7 +79,7 @@ module _ (names : ℕ → ℕ → Tag) (table : List ℕ → Option Thing) (sems
     each_there place s o (inr (last, is)) (inl at_named) =
         absurd (omega (arith, slice_get_within state place o at_named, stands.size))
     each_there place s o (inr (last_sem, sem_is)) (inr (last, named_is)) =
-        subst (λ (x : SemaphoreState). StandsAt table' (names place) place x o) sem_is
+        subst (λ (x : ObjectState). StandsAt table' (names place) place x o) sem_is
         (subst (λ (x : Named). StandsAt table' (names place) place new x) named_is
         (record {
           known = update.here made (bytes_same made made refl) ∙ ap (λ k. Some (things.Object k)) (sym last_sem);
@@ -83,7 +87,7 @@ module _ (names : ℕ → ℕ → Tag) (table : List ℕ → Option Thing) (sems
           number = sym last_sem;
           line = refl;
           held = refl;
-          lawful = lawful_start n fits;
+          lawful = steady;
           each_request = tt;
           each_held = tt;
           held_once = nothing_twice (λ (a b : Tag). bytes_eq a.name b.name);
@@ -92,8 +96,8 @@ module _ (names : ℕ → ℕ → Tag) (table : List ℕ → Option Thing) (sems
     still_known : (name : List ℕ) (found : Option Thing) → IsKnown names sems state name found → IsKnown names (sems ++ new ∷ []) (state ++ named ∷ []) name found
     still_known name None known = tt
     still_known name (Some (things.Object place)) (o, there, called) = (o, at_front state named place o there, called)
-    still_known name (Some (things.Request place request)) (s, slot, there, is, found, called) = (s, slot, at_front sems new place s there, is, found, called)
-    still_known name (Some (things.Permit permit)) (o, there, found) = (o, at_front state named permit.of o there, found)
+    still_known name (Some (things.Request place request)) (s, slot, there, is, found, called, fits) = (s, slot, at_front sems new place s there, is, found, called, fits)
+    still_known name (Some (things.Holding permit)) (o, there, found, fits) = (o, at_front state named permit.of o there, found, fits)
 
     stands_made : StandsUnder names table' (sems ++ new ∷ []) (state ++ named ∷ [])
     stands_made = record {
@@ -106,28 +110,28 @@ module _ (names : ℕ → ℕ → Tag) (table : List ℕ → Option Thing) (sems
           (still_known name (table name) (stands.every name)));
     }
 
-    pub make_follows : (last : ℕ) → wakes_of (slice_get (sems ++ new ∷ []) last) ≡ [] → Matches (making made (new_semaphore n) state) replies.Done table' last (sems ++ new ∷ [])
+    pub make_follows : (last : ℕ) → wakes_of (slice_get (sems ++ new ∷ []) last) ≡ [] → Matches (making made (unused kind n) state) replies.Done table' last (sems ++ new ∷ [])
     make_follows last none =
-        let is : making made (new_semaphore n) state ≡ record { reply = replies.Done; woken = []; state = state ++ named ∷ [] } =
+        let is : making made (unused kind n) state ≡ record { reply = replies.Done; woken = []; state = state ++ named ∷ [] } =
         ap (λ s. unless_taken s (record { reply = replies.Done; woken = []; state = state ++ named ∷ [] }) state) (stands_as names table sems state stands made None absent) in (
           ap (λ (o : Outcome). o.reply) (sym is),
           none ∙ ap (λ (o : Outcome). o.woken) (sym is),
           (names, subst (λ (s : State). StandsUnder names table' (sems ++ new ∷ []) s) (ap (λ (o : Outcome). o.state) (sym is)) stands_made),
         )
 
-  abbrev made_outcome : List ℕ → ℕ → Outcome
-  made_outcome made n = record { reply = replies.Done; woken = []; state = state ++ record { name = made; object = new_semaphore n } ∷ [] }
+  abbrev made_outcome : List ℕ → Object Tag → Outcome
+  made_outcome made new = record { reply = replies.Done; woken = []; state = state ++ record { name = made; object = new } ∷ [] }
 
-  pub make_taken : (made : List ℕ) (n last : ℕ) (thing : Thing) → ((k : ℕ) (s : SemaphoreState) → slice_get sems k ≡ Some s → s.line.wakes ≡ []) → table made ≡ Some thing
-      → Matches (making made (new_semaphore n) state) (replies.Refused refusals.Taken) table last sems
-  make_taken made n last thing quiet live =
+  pub make_taken : (made : List ℕ) (new : Object Tag) (last : ℕ) (thing : Thing) → ((k : ℕ) (s : ObjectState) → slice_get sems k ≡ Some s → s.line.wakes ≡ []) → table made ≡ Some thing
+      → Matches (making made new state) (replies.Refused refusals.Taken) table last sems
+  make_taken made new last thing quiet live =
       refused_follows names table sems state last _ refusals.Taken stands (quiet_at names table sems state stands quiet last)
-      (ap (λ s. unless_taken s (made_outcome made n) state) (stands_as names table sems state stands made (table made) refl) ∙ taken (table made) thing (made_outcome made n) state live)
+      (ap (λ s. unless_taken s (made_outcome made new) state) (stands_as names table sems state stands made (table made) refl) ∙ taken (table made) thing (made_outcome made new) state live)
 
--- with a new semaphore at the end nobody has wakers to take
-pub quiet_push : (sems : List SemaphoreState) (place n : ℕ) → ((k : ℕ) (s : SemaphoreState) → slice_get sems k ≡ Some s → s.line.wakes ≡ []) → (k : ℕ) (s : SemaphoreState) → slice_get (sems ++ fresh place n ∷ []) k ≡ Some s → s.line.wakes ≡ []
-quiet_push sems place n quiet k s there = either (at_push sems (fresh place n) k s there)
+-- with a new object at the end nobody has wakers to take
+pub quiet_push : (sems : List ObjectState) (kind : Kind) (place n : ℕ) → ((k : ℕ) (s : ObjectState) → slice_get sems k ≡ Some s → s.line.wakes ≡ []) → (k : ℕ) (s : ObjectState) → slice_get (sems ++ fresh kind place n ∷ []) k ≡ Some s → s.line.wakes ≡ []
+quiet_push sems kind place n quiet k s there = either (at_push sems (fresh kind place n) k s there)
   where
-    either : (slice_get sems k ≡ Some s) ⊎ ((k ≡ length sems) × (fresh place n ≡ s)) → s.line.wakes ≡ []
+    either : (slice_get sems k ≡ Some s) ⊎ ((k ≡ length sems) × (fresh kind place n ≡ s)) → s.line.wakes ≡ []
     either (inl e) = quiet k s e
-    either (inr (last, is)) = ap (λ (x : SemaphoreState). x.line.wakes) (sym is)
+    either (inr (last, is)) = ap (λ (x : ObjectState). x.line.wakes) (sym is)

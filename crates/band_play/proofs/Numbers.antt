@@ -7,19 +7,20 @@ use Rattle.std.proofs.lemmas.Bool.Decides.{Decides-eqb}
 use Rattle.std.proofs.lemmas.List.{length-set, length-map}
 use Rattle.std.proofs.lemmas.Option.{same_Some}
 use Rattle.band_balance.specs.Line.{Line, requests, rename, renamed, renamed_waiting, entry_named, total, is_served, u64_max, take_permits, give_back, available, drained, overflows, owes_too_much}
-use Rattle.band_balance.specs.Object.{Object, Turn, Answer, Done, Nothing, Drained, Figures, turn, release, reduce, drain, status, try_for, would_overflow, would_owe_too_much}
+use Rattle.band_balance.specs.Object.{Object, Mode, Turn, Answer, Done, Nothing, Drained, Figures, turn, release, reduce, drain, status, try_for, would_overflow, would_owe_too_much}
 use Rattle.band_balance.proofs.Rename.{is_served-rename, give_back-rename, available-rename, drained-rename, total-renamed}
 use Rattle.band_balance.proofs.Requests.{requests-give_back}
-use Rattle.band_sem.specs.Semaphore.{SemaphoreState, is_slot, IsLawful}
+use Rattle.band_sem.specs.Semaphore.{is_slot}
+use Rattle.band_play.specs.Objects.{IsSteady, ObjectState, Fits}
 use Rattle.band_play.specs.declared.thing.Thing.{Thing}
 use Rattle.band_play.specs.declared.thing.Thing.TheVariants as things
-use Rattle.band_play.specs.State.{State, Named, Tag, permit_tag}
+use Rattle.band_play.specs.State.{State, Named, Tag, tag}
 use Rattle.band_play.specs.Table.{StandsAt, StandsUnder, IsKnown, quiet}
 use Rattle.band_play.proofs.Lists.{by_bool, at_set_same, at_set_other, cond_false}
 use Rattle.band_play.proofs.Turns.{TurnsTo, with_object, quieted, quiet_line}
 
-module _ (names : ℕ → ℕ → Tag) (table : List ℕ → Option Thing) (sems : List SemaphoreState) (state : State)
-    (place : ℕ) (sem sem' : SemaphoreState) (named : Named)
+module _ (names : ℕ → ℕ → Tag) (table : List ℕ → Option Thing) (sems : List ObjectState) (state : State)
+    (place : ℕ) (sem sem' : ObjectState) (named : Named)
     (stands : StandsUnder names table sems state)
     (at_sem : slice_get sems place ≡ Some sem) (at_named : slice_get state place ≡ Some named)
     (no_wakes : sem.line.wakes ≡ []) where
@@ -30,14 +31,14 @@ module _ (names : ℕ → ℕ → Tag) (table : List ℕ → Option Thing) (sems
   line_before = here.line ∙ ap (rename (names place)) (quiet_line sem.line no_wakes)
 
   module _ (object : Object Tag) (line_is : object.line ≡ rename (names place) sem'.line) (kind_is : object.kind ≡ named.object.kind) (held_is : object.held ≡ named.object.held)
-      (number_is : sem'.number ≡ sem.number) (sem_held : sem'.held ≡ sem.held) (same_requests : requests sem'.line ≡ requests sem.line) (lawful : IsLawful sem'.line sem'.held) where
+      (sem_kind : sem'.kind ≡ sem.kind) (number_is : sem'.number ≡ sem.number) (sem_held : sem'.held ≡ sem.held) (same_requests : requests sem'.line ≡ requests sem.line) (lawful : IsSteady sem') where
     abbrev named' : Named
     named' = with_object named (quieted object)
 
     at_place : StandsAt table (names place) place sem' named'
     at_place = record {
       known = here.known;
-      kind = kind_is ∙ here.kind;
+      kind = kind_is ∙ here.kind ∙ sym sem_kind;
       number = number_is ∙ here.number;
       line = ap quiet line_is;
       held = ap total held_is ∙ here.held ∙ sym sem_held;
@@ -50,14 +51,14 @@ module _ (names : ℕ → ℕ → Tag) (table : List ℕ → Option Thing) (sems
     by_place : {P : Type 0} (j : ℕ) → (j ≡ place → P) → ((j ≡ place → ⊥) → P) → P
     by_place j f g = by_bool (j == place) (λ e. f (eqb-true j place e)) (λ e. g (λ same. false≢true (sym e ∙ (Decides-eqb j place).1 same)))
 
-    each_there : (j : ℕ) (s : SemaphoreState) (o : Named) → slice_get (slice_set sems place sem') j ≡ Some s → slice_get (slice_set state place named') j ≡ Some o → StandsAt table (names j) j s o
+    each_there : (j : ℕ) (s : ObjectState) (o : Named) → slice_get (slice_set sems place sem') j ≡ Some s → slice_get (slice_set state place named') j ≡ Some o → StandsAt table (names j) j s o
     each_there j s o there_sem there_named =
         by_place j
         (λ same.
         let sem_is : sem' ≡ s = same_Some sem' s (sym (at_set_same sems place sem sem' at_sem) ∙ ap (slice_get (slice_set sems place sem')) (sym same) ∙ there_sem) in
         let named_is : named' ≡ o = same_Some named' o (sym (at_set_same state place named named' at_named) ∙ ap (slice_get (slice_set state place named')) (sym same) ∙ there_named) in
         subst (λ n. StandsAt table (names n) n s o) (sym same)
-        (subst (λ (x : SemaphoreState). StandsAt table (names place) place x o) sem_is
+        (subst (λ (x : ObjectState). StandsAt table (names place) place x o) sem_is
         (subst (λ (x : Named). StandsAt table (names place) place sem' x) named_is at_place)))
         (λ other. stands.each j s o (sym (at_set_other sems place j sem' other) ∙ there_sem) (sym (at_set_other state place j named' other) ∙ there_named))
 
@@ -69,7 +70,7 @@ module _ (names : ℕ → ℕ → Tag) (table : List ℕ → Option Thing) (sems
         let named_is : named ≡ o = same_Some named o (sym at_named ∙ ap (slice_get state) (sym same) ∙ there) in
         (named', ap (slice_get (slice_set state place named')) same ∙ at_set_same state place named named' at_named, ap (λ (x : Named). x.name) named_is ∙ called))
         (λ apart. (o, at_set_other state place j named' apart ∙ there, called))
-    still_known n (Some (things.Request j request)) (s, slot, there, is, found, called) =
+    still_known n (Some (things.Request j request)) (s, slot, there, is, found, called, fits) =
         by_place j
         (λ same.
         let sem_is : sem ≡ s = same_Some sem s (sym at_sem ∙ ap (slice_get sems) (sym same) ∙ there) in (
@@ -77,19 +78,21 @@ module _ (names : ℕ → ℕ → Tag) (table : List ℕ → Option Thing) (sems
           slot,
           ap (slice_get (slice_set sems place sem')) same ∙ at_set_same sems place sem sem' at_sem,
           is,
-          ap (entry_named (is_slot slot)) (same_requests ∙ ap (λ (x : SemaphoreState). requests x.line) sem_is) ∙ found,
+          ap (entry_named (is_slot slot)) (same_requests ∙ ap (λ (x : ObjectState). requests x.line) sem_is) ∙ found,
           called,
+          subst (λ k. Fits k request.mode request.size) (ap (λ (x : ObjectState). x.kind) (sym sem_is) ∙ sym sem_kind) fits,
         ))
-        (λ apart. (s, slot, at_set_other sems place j sem' apart ∙ there, is, found, called))
-    still_known n (Some (things.Permit permit)) (o, there, found) =
+        (λ apart. (s, slot, at_set_other sems place j sem' apart ∙ there, is, found, called, fits))
+    still_known n (Some (things.Holding permit)) (o, there, found, fits) =
         by_place permit.of
         (λ same.
         let named_is : named ≡ o = same_Some named o (sym at_named ∙ ap (slice_get state) (sym same) ∙ there) in (
           named',
           ap (slice_get (slice_set state place named')) same ∙ at_set_same state place named named' at_named,
           ap (entry_named _) (held_is ∙ ap (λ (x : Named). x.object.held) named_is) ∙ found,
+          subst (λ k. Fits k permit.mode permit.count) (ap (λ (x : Named). x.object.kind) (sym named_is) ∙ sym kind_is) fits,
         ))
-        (λ apart. (o, at_set_other state place permit.of named' apart ∙ there, found))
+        (λ apart. (o, at_set_other state place permit.of named' apart ∙ there, found, fits))
 
     pub turns_still : (answer : Answer) → TurnsTo names table sems state place sem' named answer (turn answer object)
     turns_still answer = record {
@@ -102,12 +105,12 @@ module _ (names : ℕ → ℕ → Tag) (table : List ℕ → Option Thing) (sems
       };
     }
 
-module _ (names : ℕ → ℕ → Tag) (table : List ℕ → Option Thing) (sems : List SemaphoreState) (state : State)
-    (place : ℕ) (sem : SemaphoreState) (named : Named)
+module _ (names : ℕ → ℕ → Tag) (table : List ℕ → Option Thing) (sems : List ObjectState) (state : State)
+    (place : ℕ) (sem : ObjectState) (named : Named)
     (stands : StandsUnder names table sems state)
     (at_sem : slice_get sems place ≡ Some sem) (at_named : slice_get state place ≡ Some named)
     (no_wakes : sem.line.wakes ≡ []) where
-  abbrev with_line : Line ℕ → SemaphoreState
+  abbrev with_line : Line ℕ → ObjectState
   with_line line = record sem { line = line }
 
   same_line : named.object.line ≡ rename (names place) sem.line
@@ -116,34 +119,34 @@ module _ (names : ℕ → ℕ → Tag) (table : List ℕ → Option Thing) (sems
   at_once : StandsAt table (names place) place sem named
   at_once = stands.each place sem named at_sem at_named
 
-  pub released_turn : (n : ℕ) → IsLawful (give_back n sem.line) sem.held → TurnsTo names table sems state place (with_line (give_back n sem.line)) named Done (release n named.object)
+  pub released_turn : (n : ℕ) → IsSteady (record sem { line = give_back n sem.line }) → TurnsTo names table sems state place (with_line (give_back n sem.line)) named Done (release n named.object)
   released_turn n lawful =
       turns_still names table sems state place sem (with_line (give_back n sem.line)) named stands at_sem at_named no_wakes (record named.object { line = give_back n named.object.line })
-      (ap (give_back n) same_line ∙ give_back-rename (names place) n sem.line) refl refl refl refl (requests-give_back n sem.line) lawful Done
+      (ap (give_back n) same_line ∙ give_back-rename (names place) n sem.line) refl refl refl refl refl (requests-give_back n sem.line) lawful Done
 
-  pub reduced_turn : (n : ℕ) → IsLawful (take_permits n sem.line) sem.held → TurnsTo names table sems state place (with_line (take_permits n sem.line)) named Done (reduce n named.object)
+  pub reduced_turn : (n : ℕ) → IsSteady (record sem { line = take_permits n sem.line }) → TurnsTo names table sems state place (with_line (take_permits n sem.line)) named Done (reduce n named.object)
   reduced_turn n lawful =
       turns_still names table sems state place sem (with_line (take_permits n sem.line)) named stands at_sem at_named no_wakes (record named.object { line = take_permits n named.object.line })
-      (ap (take_permits n) same_line) refl refl refl refl refl lawful Done
+      (ap (take_permits n) same_line) refl refl refl refl refl refl lawful Done
 
   same_drained : (n : ℕ) → drained n named.object.line ≡ drained n sem.line
   same_drained n = ap (drained n) same_line ∙ drained-rename (names place) n sem.line
 
-  pub drained_turn : (n : ℕ) → IsLawful (take_permits (drained n sem.line) sem.line) sem.held
+  pub drained_turn : (n : ℕ) → IsSteady (record sem { line = take_permits (drained n sem.line) sem.line })
       → TurnsTo names table sems state place (with_line (take_permits (drained n sem.line) sem.line)) named (Drained (drained n sem.line)) (drain n named.object)
   drained_turn n lawful =
       subst (λ (k : ℕ). TurnsTo names table sems state place (with_line (take_permits (drained n sem.line) sem.line)) named (Drained (drained n sem.line)) (turn (Drained k) (record named.object { line = take_permits k named.object.line })))
       (sym (same_drained n))
       (turns_still names table sems state place sem (with_line (take_permits (drained n sem.line) sem.line)) named stands at_sem at_named no_wakes (record named.object { line = take_permits (drained n sem.line) named.object.line })
-      (ap (take_permits (drained n sem.line)) same_line) refl refl refl refl refl lawful (Drained (drained n sem.line)))
+      (ap (take_permits (drained n sem.line)) same_line) refl refl refl refl refl refl lawful (Drained (drained n sem.line)))
 
   -- nothing changes
   pub same_turn : (answer : Answer) → TurnsTo names table sems state place sem named answer (turn answer named.object)
   same_turn answer =
-      turns_still names table sems state place sem sem named stands at_sem at_named no_wakes named.object same_line refl refl refl refl refl at_once.lawful answer
+      turns_still names table sems state place sem sem named stands at_sem at_named no_wakes named.object same_line refl refl refl refl refl refl at_once.lawful answer
 
-  pub tried_in_vain : (made : List ℕ) (n : ℕ) → is_served n sem.line ≡ false → TurnsTo names table sems state place sem named Nothing (try_for (permit_tag made) n named.object)
-  tried_in_vain made n waits =
+  pub tried_in_vain : (mode : Mode) (made : List ℕ) (n : ℕ) → is_served n sem.line ≡ false → TurnsTo names table sems state place sem named Nothing (try_for (tag mode made) n named.object)
+  tried_in_vain mode made n waits =
       subst (λ (t : Turn Tag). TurnsTo names table sems state place sem named Nothing t)
       (sym (cond_false (is_served n named.object.line) _ (turn Nothing named.object) (ap (is_served n) same_line ∙ is_served-rename (names place) n sem.line ∙ waits)))
       (same_turn Nothing)

@@ -5,9 +5,10 @@ use Rattle.std.specs.Str.{bytes_eq}
 use Rattle.std.proofs.lemmas.Int.{ints}
 use Rattle.std.proofs.lemmas.Bool.{false≢true, le-leb, lt-leb}
 use Rattle.band_balance.specs.Line.{Entry, Line, entry_named, rename, without}
-use Rattle.band_balance.specs.Object.{Object, Done, Nothing, Turn, turn, hold, resize, split, split_of, merge, merge_of}
+use Rattle.band_balance.specs.Object.{Object, Kind, Semaphore, Mutex, ReaderWriter, Permit, Done, Nothing, Turn, turn, hold, resize, split, split_of, merge, merge_of}
 use Rattle.band_balance.proofs.Requests.{entry_named-without_other}
-use Rattle.band_sem.specs.Semaphore.{SemaphoreState, IsLawful}
+use Rattle.band_sem.specs.Semaphore.{IsLawful, SemaphoreState}
+use Rattle.band_play.specs.Objects.{ObjectState, IsSteady, IsLockOf, Fits}
 use Rattle.band_play.specs.declared.thing.Thing.{Thing}
 use Rattle.band_play.specs.declared.thing.Thing.TheVariants as things
 use Rattle.band_play.specs.Names.{Updated}
@@ -31,6 +32,20 @@ lawful_fewer line held fewer less lawful = record {
   owed = lawful.owed;
 }
 
+-- a semaphore may have any permits, and fewer of them held
+pub fits_any : (kind : Kind) (a b : ℕ) → Fits kind Permit a → Fits kind Permit b
+fits_any Semaphore a b fits = tt
+fits_any Mutex a b fits = absurd fits
+fits_any (ReaderWriter max) a b fits = absurd fits
+
+pub lock_of_any : (kind : Kind) (a : ℕ) (old new : SemaphoreState) → Fits kind Permit a → IsLockOf kind old → IsLockOf kind new
+lock_of_any Semaphore a old new fits is = tt
+lock_of_any Mutex a old new fits is = absurd fits
+lock_of_any (ReaderWriter max) a old new fits is = absurd fits
+
+pub steady_fewer : (sem : ObjectState) (a fewer : ℕ) → Fits sem.kind Permit a → fewer ≤ sem.held → IsSteady sem → IsSteady (record sem { held = fewer })
+steady_fewer sem a fewer fits less steady = (lawful_fewer sem.line sem.held fewer less steady.0, lock_of_any sem.kind a _ _ fits steady.1)
+
 -- two names differ either way
 pub other_way : (m n : List ℕ) → bytes_eq m n ≡ false → bytes_eq n m ≡ false
 other_way m n apart = by_bool (bytes_eq n m) (λ same. absurd (false≢true (sym apart ∙ bytes_same m n (sym (same_bytes n m same))))) (λ other. other)
@@ -41,8 +56,8 @@ set-set [] k a b = refl
 set-set (x ∷ xs) zero a b = refl
 set-set (x ∷ xs) (suc k) a b = ap (λ ys. x ∷ ys) (set-set xs k a b)
 
-module _ (names : ℕ → ℕ → Tag) (table mid table' : List ℕ → Option Thing) (sems : List SemaphoreState) (state : State)
-    (place : ℕ) (sem : SemaphoreState) (named : Named) (stands : StandsUnder names table sems state)
+module _ (names : ℕ → ℕ → Tag) (table mid table' : List ℕ → Option Thing) (sems : List ObjectState) (state : State)
+    (place : ℕ) (sem : ObjectState) (named : Named) (stands : StandsUnder names table sems state)
     (at_sem : slice_get sems place ≡ Some sem) (at_named : slice_get state place ≡ Some named) (no_wakes : sem.line.wakes ≡ []) where
   here : StandsAt table (names place) place sem named
   here = stands.each place sem named at_sem at_named
@@ -51,7 +66,7 @@ module _ (names : ℕ → ℕ → Tag) (table mid table' : List ℕ → Option T
   same_line = line_before names table sems state place sem sem named stands at_sem at_named no_wakes
 
   -- two turns one after the other on the same object, where neither changes the line
-  module _ (first : SemaphoreState) (held_first held_last : List (Entry Tag)) (first_line : first.line ≡ sem.line) where
+  module _ (first : ObjectState) (held_first held_last : List (Entry Tag)) (first_line : first.line ≡ sem.line) where
     abbrev object_first : Object Tag
     object_first = record named.object { held = held_first }
 
@@ -67,18 +82,18 @@ module _ (names : ℕ → ℕ → Tag) (table mid table' : List ℕ → Option T
       answer_is = refl;
       woken = ap (λ (l : Line Tag). l.wakes) same_line;
       stands =
-          subst (λ (ss : List SemaphoreState). StandsUnder names table' ss (slice_set state place (with_object named (quieted object_last)))) (set-set sems place first sem)
+          subst (λ (ss : List ObjectState). StandsUnder names table' ss (slice_set state place (with_object named (quieted object_last)))) (set-set sems place first sem)
           (subst (λ (os : State). StandsUnder names table' (slice_set (slice_set sems place first) place sem) os) (set-set state place named_first (with_object named (quieted object_last)))
           last.stands);
     }
 
-  module _ (m made : List ℕ) (count n : ℕ) (enough : n ≤ count) (within : count ≤ sem.held)
-      (permitted : table m ≡ Some (things.Permit (record { of = place; count = count })))
+  module _ (m made : List ℕ) (count n : ℕ) (fits : Fits sem.kind Permit count) (enough : n ≤ count) (within : count ≤ sem.held)
+      (permitted : table m ≡ Some (things.Holding (record { mode = Permit; of = place; count = count })))
       (own : entry_named (is_tag m) named.object.held ≡ Some (record { name = permit_tag m; size = count }))
       (absent : mid made ≡ None)
-      (first : Updated table mid m (Some (things.Permit (record { of = place; count = count - n }))))
-      (second : Updated mid table' made (Some (things.Permit (record { of = place; count = n })))) where
-    abbrev fewer_sem : SemaphoreState
+      (first : Updated table mid m (Some (things.Holding (record { mode = Permit; of = place; count = count - n }))))
+      (second : Updated mid table' made (Some (things.Holding (record { mode = Permit; of = place; count = n })))) where
+    abbrev fewer_sem : ObjectState
     fewer_sem = record sem { held = sem.held - n }
 
     abbrev fewer_held : List (Entry Tag)
@@ -88,16 +103,16 @@ module _ (names : ℕ → ℕ → Tag) (table mid table' : List ℕ → Option T
     fewer_named = with_object named (quieted (record named.object { held = fewer_held }))
 
     fewer : TurnsTo names mid sems state place fewer_sem named Done (turn Done (record named.object { held = fewer_held }))
-    fewer = resized names table mid m sems state place sem named count stands at_sem at_named permitted own no_wakes (count - n) first (sem.held - n) (omega arith)
-        (lawful_fewer sem.line sem.held (sem.held - n) (omega arith) here.lawful)
+    fewer = resized names table mid m sems state place sem named Permit count stands at_sem at_named permitted own no_wakes (count - n) (fits_any sem.kind count (count - n) fits) first (sem.held - n) (omega arith)
+        (steady_fewer sem count (sem.held - n) fits (omega arith) here.lawful)
 
     more : TurnsTo names table' (slice_set sems place fewer_sem) (slice_set state place fewer_named) place (record fewer_sem { held = (sem.held - n) + n }) fewer_named Done
         (turn Done (record (quieted (record named.object { held = fewer_held })) { held = hold (permit_tag made) n fewer_held }))
-    more = holding_turn names mid table' made n 0 (slice_set sems place fewer_sem) (slice_set state place fewer_named) place fewer_sem fewer_named fewer.stands
-        (at_set_same sems place sem fewer_sem at_sem) (at_set_same state place named fewer_named at_named) absent no_wakes
+    more = holding_turn names mid table' Permit made n 0 (slice_set sems place fewer_sem) (slice_set state place fewer_named) place fewer_sem fewer_named fewer.stands
+        (at_set_same sems place sem fewer_sem at_sem) (at_set_same state place named fewer_named at_named) (fits_any sem.kind count n fits) absent no_wakes
         sem.line _ (line_before names mid (slice_set sems place fewer_sem) (slice_set state place fewer_named) place fewer_sem fewer_sem fewer_named fewer.stands (at_set_same sems place sem fewer_sem at_sem) (at_set_same state place named fewer_named at_named) no_wakes)
         refl second
-        (subst (λ (h : ℕ). IsLawful sem.line h) back here.lawful) Done
+        (subst (λ (h : ℕ). IsSteady (record sem { held = h })) back here.lawful) Done
       where
         back : sem.held ≡ (sem.held - n) + n
         back = omega arith
@@ -123,14 +138,14 @@ module _ (names : ℕ → ℕ → Tag) (table mid table' : List ℕ → Option T
       (sym (cond_false (nat_le n count) (turn Done (record named.object { held = hold (permit_tag made) n (resize (is_tag m) (count - n) named.object.held) })) (turn Nothing named.object) (lt-leb n count beyond)))
       (same_turn names table sems state place sem named stands at_sem at_named no_wakes Nothing))
 
-  module _ (kept spent : List ℕ) (count other : ℕ) (apart : bytes_eq kept spent ≡ false) (within : other ≤ sem.held)
-      (kept_there : mid kept ≡ Some (things.Permit (record { of = place; count = count })))
-      (spent_there : table spent ≡ Some (things.Permit (record { of = place; count = other })))
+  module _ (kept spent : List ℕ) (count other : ℕ) (fits : Fits sem.kind Permit count) (apart : bytes_eq kept spent ≡ false) (within : other ≤ sem.held)
+      (kept_there : mid kept ≡ Some (things.Holding (record { mode = Permit; of = place; count = count })))
+      (spent_there : table spent ≡ Some (things.Holding (record { mode = Permit; of = place; count = other })))
       (own : entry_named (is_tag kept) named.object.held ≡ Some (record { name = permit_tag kept; size = count }))
       (own_spent : entry_named (is_tag spent) named.object.held ≡ Some (record { name = permit_tag spent; size = other }))
       (first : Updated table mid spent None)
-      (second : Updated mid table' kept (Some (things.Permit (record { of = place; count = count + other })))) where
-    abbrev less_sem : SemaphoreState
+      (second : Updated mid table' kept (Some (things.Holding (record { mode = Permit; of = place; count = count + other })))) where
+    abbrev less_sem : ObjectState
     less_sem = record sem { held = sem.held - other }
 
     abbrev less_held : List (Entry Tag)
@@ -140,18 +155,18 @@ module _ (names : ℕ → ℕ → Tag) (table mid table' : List ℕ → Option T
     less_named = with_object named (quieted (record named.object { held = less_held }))
 
     less : TurnsTo names mid sems state place less_sem named Done (turn Done (record named.object { held = less_held }))
-    less = ended names table mid spent sems state place sem named other stands at_sem at_named spent_there own_spent no_wakes sem.line named.object.line same_line refl first
-        (lawful_fewer sem.line sem.held (sem.held - other) (omega arith) here.lawful)
+    less = ended names table mid spent sems state place sem named Permit other stands at_sem at_named spent_there own_spent no_wakes sem.line named.object.line same_line refl first
+        (steady_fewer sem count (sem.held - other) fits (omega arith) here.lawful)
 
     apart_held : AllByRecursion (λ (e : Entry Tag). is_tag spent e.name ≡ true → is_tag kept e.name ≡ false) named.object.held
     apart_held = tags_apart kept spent named.object.held apart
 
     grown : TurnsTo names table' (slice_set sems place less_sem) (slice_set state place less_named) place sem less_named Done
         (turn Done (record (quieted (record named.object { held = less_held })) { held = resize (is_tag kept) (count + other) less_held }))
-    grown = resized names mid table' kept (slice_set sems place less_sem) (slice_set state place less_named) place less_sem less_named count less.stands
+    grown = resized names mid table' kept (slice_set sems place less_sem) (slice_set state place less_named) place less_sem less_named Permit count less.stands
         (at_set_same sems place sem less_sem at_sem) (at_set_same state place named less_named at_named) kept_there
         (entry_named-without_other (is_tag spent) (is_tag kept) named.object.held (tags_apart spent kept named.object.held apart_back) ∙ own) no_wakes
-        (count + other) second sem.held (omega arith) here.lawful
+        (count + other) (fits_any sem.kind count (count + other) fits) second sem.held (omega arith) here.lawful
       where
         apart_back : bytes_eq spent kept ≡ false
         apart_back = other_way kept spent apart

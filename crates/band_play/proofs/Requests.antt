@@ -6,19 +6,18 @@ use Rattle.std.specs.Str.{bytes_eq}
 use Rattle.std.proofs.lemmas.Bool.{false≢true}
 use Rattle.std.proofs.lemmas.Option.{same_Some}
 use Rattle.band_balance.specs.Line.{Entry, Line, requests, rename, renamed, entry_of, entry_named, poll_granted, poll_waiting, cancel, without}
-use Rattle.band_balance.specs.Object.{Object, Ready, Pending, Done, poll, poll_of, drop, drop_of}
+use Rattle.band_balance.specs.Object.{Object, Mode, Ready, Pending, Done, poll, poll_of, drop, drop_of}
 use Rattle.band_balance.proofs.Rename.{poll_granted-rename, poll_waiting-rename, cancel-rename_requests, all_of_first, all_of_second, all_of_both, entry_named-rename}
 use Rattle.band_balance.proofs.Requests.{requests-poll_waiting, requests-poll_granted, requests-cancel, entry_named-without_other, entry_named-append, entry_named-poll_waiting}
 use Rattle.band_balance.proofs.Settle.{total-append}
-use Rattle.band_sem.specs.Semaphore.{SemaphoreState, is_slot, IsLawful}
-use Rattle.band_sem.specs.Request.{Request}
-use Rattle.band_sem.specs.Permit.{Permit}
+use Rattle.band_sem.specs.Semaphore.{is_slot}
+use Rattle.band_play.specs.Objects.{IsSteady, ObjectState, RequestState, HoldingState, Fits}
 use Rattle.band_sem.specs.declared.acquire.Stage.{Stage}
 use Rattle.band_sem.specs.declared.acquire.Stage.TheVariants.{NotPolled, Joined, Finished}
 use Rattle.band_play.specs.declared.thing.Thing.{Thing}
 use Rattle.band_play.specs.declared.thing.Thing.TheVariants as things
-use Rattle.band_play.specs.State.{State, Named, Tag, is_tag, permit_tag}
-use Rattle.band_play.specs.Table.{StandsAt, StandsUnder, IsKnown, request_at, permit_at}
+use Rattle.band_play.specs.State.{State, Named, Tag, is_tag, tag}
+use Rattle.band_play.specs.Table.{StandsAt, StandsUnder, IsKnown, request_at, holding_at}
 use Rattle.band_play.proofs.Lists.{by_bool, at_set_same, cond_false}
 use Rattle.band_play.proofs.Standing.{same_bytes, bytes_same}
 use Rattle.band_play.specs.Names.{Updated}
@@ -41,16 +40,16 @@ slot_at Finished = 0
 abbrev slot_of : Option Thing → ℕ
 slot_of None = 0
 slot_of (Some (things.Object place)) = 0
-slot_of (Some (things.Permit permit)) = 0
+slot_of (Some (things.Holding permit)) = 0
 slot_of (Some (things.Request place request)) = slot_at request.stage
 
-module _ (names : ℕ → ℕ → Tag) (table : List ℕ → Option Thing) (m : List ℕ) (sems : List SemaphoreState) (state : State)
-    (place : ℕ) (sem : SemaphoreState) (named : Named) (slot size : ℕ)
+module _ (names : ℕ → ℕ → Tag) (table : List ℕ → Option Thing) (m : List ℕ) (sems : List ObjectState) (state : State)
+    (place : ℕ) (sem : ObjectState) (named : Named) (slot size : ℕ) (mode : Mode)
     (stands : StandsUnder names table sems state)
     (at_sem : slice_get sems place ≡ Some sem) (at_named : slice_get state place ≡ Some named)
-    (requested : table m ≡ Some (things.Request place (record { of = place; size = size; stage = Joined slot })))
+    (requested : table m ≡ Some (things.Request place (record { mode = mode; of = place; size = size; stage = Joined slot })))
     (own : entry_named (is_slot slot) (requests sem.line) ≡ Some (record { name = slot; size = size }))
-    (called : names place slot ≡ permit_tag m)
+    (called : names place slot ≡ tag mode m) (fits : Fits sem.kind mode size)
     (no_wakes : sem.line.wakes ≡ []) where
   here : StandsAt table (names place) place sem named
   here = stands.each place sem named at_sem at_named
@@ -61,7 +60,7 @@ module _ (names : ℕ → ℕ → Tag) (table : List ℕ → Option Thing) (m : 
   not_object : table m ≡ Some (things.Object place) → ⊥
   not_object e = impossible (same_Some _ _ (sym requested ∙ e))
     where
-      impossible : {r : Request} → things.Request place r ≡ things.Object place → ⊥
+      impossible : {r : RequestState} → things.Request place r ≡ things.Object place → ⊥
       impossible e = cc
 
   nowhere : (j : ℕ) → (j ≡ place → ⊥) → place_of (table m) ≡ Some j → ⊥
@@ -71,7 +70,7 @@ module _ (names : ℕ → ℕ → Tag) (table : List ℕ → Option Thing) (m : 
   same_names j other = refl
 
   -- a request of the line has the name exactly where it has the slot
-  agree_at : (e : Entry ℕ) → table (names place e.name).name ≡ Some (request_at place e) → is_tag m (names place e.name) ≡ is_slot slot e.name
+  agree_at : (e : Entry ℕ) → table (names place e.name).name ≡ Some (request_at place (names place e.name).mode e) → is_tag m (names place e.name) ≡ is_slot slot e.name
   agree_at e is =
       by_bool (is_slot slot e.name)
       (λ h. ap (λ (t : Tag). is_tag m t) (ap (names place) (sym (slot_same slot e.name h)) ∙ called) ∙ bytes_same m m refl ∙ sym h)
@@ -100,12 +99,12 @@ module _ (names : ℕ → ℕ → Tag) (table : List ℕ → Option Thing) (m : 
       ∙ entry_named-rename (names place) (is_slot slot) (is_tag m) sem.line.granted agree_granted
 
   -- another name's slot is another
-  kept_slot : (n : List ℕ) (s : ℕ) → bytes_eq m n ≡ false → names place s ≡ permit_tag n → (slot ≡ s → ⊥)
-  kept_slot n s other named_n same = false≢true (sym other ∙ bytes_same m n (ap (λ (t : Tag). t.name) (sym called ∙ ap (names place) same ∙ named_n)))
+  kept_slot : (n : List ℕ) (s : ℕ) (other_mode : Mode) → bytes_eq m n ≡ false → names place s ≡ tag other_mode n → (slot ≡ s → ⊥)
+  kept_slot n s other_mode other named_n same = false≢true (sym other ∙ bytes_same m n (ap (λ (t : Tag). t.name) (sym called ∙ ap (names place) same ∙ named_n)))
 
   -- it waits
-  module _ (waker : ℕ) (waits : entry_named (is_slot slot) sem.line.granted ≡ None) (lawful : IsLawful (poll_waiting (is_slot slot) waker sem.line) sem.held) where
-    abbrev pub waiting_sem : SemaphoreState
+  module _ (waker : ℕ) (waits : entry_named (is_slot slot) sem.line.granted ≡ None) (lawful : IsSteady (record sem { line = poll_waiting (is_slot slot) waker sem.line })) where
+    abbrev pub waiting_sem : ObjectState
     waiting_sem = record sem { line = poll_waiting (is_slot slot) waker sem.line }
 
     abbrev waiting_object : Object Tag
@@ -117,25 +116,27 @@ module _ (names : ℕ → ℕ → Tag) (table : List ℕ → Option Thing) (m : 
         (sym (granted_is ∙ ap (option_map (renamed (names place))) waits))
         (turns_to names names table table m (table m) sems state place sem waiting_sem named waiting_object stands (unchanged table m) at_sem at_named same_names nowhere not_object
         (ap (poll_waiting (is_tag m) waker) line_before ∙ poll_waiting-rename (names place) (is_slot slot) (is_tag m) waker sem.line agree_waiting)
-        refl refl here.held lawful
+        refl refl refl here.held lawful
         (rw (requests-poll_waiting (is_slot slot) waker sem.line) here.each_request)
         here.each_held here.held_once
         (record {
           name = refl;
-          request = λ n s e other found named_n. (entry_named-poll_waiting (is_slot slot) (is_slot s) waker sem.line ∙ found, named_n);
+          kind = refl;
+          same_kind = refl;
+          request = λ n s e other found other_mode named_n. (entry_named-poll_waiting (is_slot slot) (is_slot s) waker sem.line ∙ found, named_n);
           permit = λ n e other found. found;
         })
         (subst (λ (o : Option Thing). IsKnown names (slice_set sems place waiting_sem) (slice_set state place (with_object named (quieted waiting_object))) m o) (sym requested)
-        (waiting_sem, slot, at_set_same sems place sem waiting_sem at_sem, refl, entry_named-poll_waiting (is_slot slot) (is_slot slot) waker sem.line ∙ own, called))
+        (waiting_sem, slot, at_set_same sems place sem waiting_sem at_sem, refl, entry_named-poll_waiting (is_slot slot) (is_slot slot) waker sem.line ∙ own, called, fits))
         Pending)
 
   -- no permit has the name
-  permit_apart : (e : Entry Tag) → table e.name.name ≡ Some (permit_at place e) → bytes_eq e.name.name m ≡ false
+  permit_apart : (e : Entry Tag) → table e.name.name ≡ Some (holding_at place e) → bytes_eq e.name.name m ≡ false
   permit_apart e is = by_bool (bytes_eq e.name.name m)
       (λ h. absurd (impossible (same_Some _ _ (sym requested ∙ ap table (sym (same_bytes e.name.name m h)) ∙ is))))
       (λ h. h)
     where
-      impossible : {r : Request} {p : Permit} → things.Request place r ≡ things.Permit p → ⊥
+      impossible : {r : RequestState} {p : HoldingState} → things.Request place r ≡ things.Holding p → ⊥
       impossible e = cc
 
   held_apart : AllByRecursion (λ (e : Entry Tag). bytes_eq e.name.name m ≡ false) named.object.held
@@ -150,26 +151,26 @@ module _ (names : ℕ → ℕ → Tag) (table : List ℕ → Option Thing) (m : 
 
   -- the table without the request, or with its permit
   module _ (table' : List ℕ → Option Thing) (w : Option Thing) (update : Updated table table' m w) where
-    permits_stay : AllByRecursion (λ (e : Entry Tag). table' e.name.name ≡ Some (permit_at place e)) named.object.held
+    permits_stay : AllByRecursion (λ (e : Entry Tag). table' e.name.name ≡ Some (holding_at place e)) named.object.held
     permits_stay = all_weaker _ _ (λ (e : Entry Tag) is. update.others e.name.name (flip e (permit_apart e is)) ∙ is) named.object.held here.each_held
       where
         flip : (e : Entry Tag) → bytes_eq e.name.name m ≡ false → bytes_eq m e.name.name ≡ false
         flip e h = by_bool (bytes_eq m e.name.name) (λ k. absurd (false≢true (sym h ∙ bytes_same e.name.name m (sym (same_bytes m e.name.name k))))) (λ k. k)
 
-    requests_stay : AllByRecursion (λ (e : Entry ℕ). table' (names place e.name).name ≡ Some (request_at place e)) (without (is_slot slot) (requests sem.line))
+    requests_stay : AllByRecursion (λ (e : Entry ℕ). table' (names place e.name).name ≡ Some (request_at place (names place e.name).mode e)) (without (is_slot slot) (requests sem.line))
     requests_stay =
         all_weaker _ _ (λ (e : Entry ℕ) h. update.others (names place e.name).name (agree_at e h.0 ∙ h.1) ∙ h.0) (without (is_slot slot) (requests sem.line))
-        (others_stay nat_eq (is_slot slot) (slots_one slot) _ (requests sem.line) here.each_request here.lawful.one_each)
+        (others_stay nat_eq (is_slot slot) (slots_one slot) _ (requests sem.line) here.each_request here.lawful.0.one_each)
 
-    requests_kept : (n : List ℕ) (s : ℕ) (e : Entry ℕ) → bytes_eq m n ≡ false → entry_named (is_slot s) (requests sem.line) ≡ Some e → names place s ≡ permit_tag n
+    requests_kept : (n : List ℕ) (s : ℕ) (e : Entry ℕ) (other_mode : Mode) → bytes_eq m n ≡ false → entry_named (is_slot s) (requests sem.line) ≡ Some e → names place s ≡ tag other_mode n
         → entry_named (is_slot s) (without (is_slot slot) (requests sem.line)) ≡ Some e
-    requests_kept n s e other found named_n = entry_named-without_other (is_slot slot) (is_slot s) (requests sem.line) (apart_on slot s (requests sem.line) (kept_slot n s other named_n)) ∙ found
+    requests_kept n s e other_mode other found named_n = entry_named-without_other (is_slot slot) (is_slot s) (requests sem.line) (apart_on slot s (requests sem.line) (kept_slot n s other_mode other named_n)) ∙ found
 
   -- it was granted
   module _ (waker : ℕ) (table' : List ℕ → Option Thing) (granted : entry_named (is_slot slot) sem.line.granted ≡ Some (record { name = slot; size = size }))
-      (update : Updated table table' m (Some (things.Permit (record { of = place; count = size }))))
-      (lawful : IsLawful (poll_granted (is_slot slot) sem.line) (sem.held + size)) where
-    abbrev pub ready_sem : SemaphoreState
+      (update : Updated table table' m (Some (things.Holding (record { mode = mode; of = place; count = size }))))
+      (lawful : IsSteady (record sem { line = poll_granted (is_slot slot) sem.line; held = sem.held + size })) where
+    abbrev pub ready_sem : ObjectState
     ready_sem = record sem { line = poll_granted (is_slot slot) sem.line; held = sem.held + size }
 
     abbrev taken : Entry Tag
@@ -178,14 +179,16 @@ module _ (names : ℕ → ℕ → Tag) (table : List ℕ → Option Thing) (m : 
     abbrev ready_object : Object Tag
     ready_object = record named.object { line = poll_granted (is_tag m) named.object.line; held = named.object.held ++ taken ∷ [] }
 
-    taken_here : table' taken.name.name ≡ Some (permit_at place taken)
-    taken_here = ap (λ (t : Tag). table' t.name) called ∙ update.here m (bytes_same m m refl)
+    taken_here : table' taken.name.name ≡ Some (holding_at place taken)
+    taken_here =
+        ap (λ (t : Tag). table' t.name) called ∙ update.here m (bytes_same m m refl)
+        ∙ ap (λ (t : Tag). Some (things.Holding (record { mode = t.mode; of = place; count = size }))) (sym called)
 
-    found_last : entry_named (is_tag m) (named.object.held ++ taken ∷ []) ≡ Some (record { name = permit_tag m; size = size })
+    found_last : entry_named (is_tag m) (named.object.held ++ taken ∷ []) ≡ Some (record { name = tag mode m; size = size })
     found_last =
         entry_named-append (is_tag m) named.object.held (taken ∷ [])
         ∙ ap₂ (λ (o : Option (Entry Tag)) (t : Tag). option_or o (cond (is_tag m t) (Some (record { name = t; size = size })) None)) (not_held named.object.held held_apart) called
-        ∙ ap (λ (b : Bool). option_or None (cond b (Some (record { name = permit_tag m; size = size })) None)) (bytes_same m m refl)
+        ∙ ap (λ (b : Bool). option_or None (cond b (Some (record { name = tag mode m; size = size })) None)) (bytes_same m m refl)
 
     found_before : (n : List ℕ) (e : Entry Tag) → entry_named (is_tag n) named.object.held ≡ Some e → entry_named (is_tag n) (named.object.held ++ taken ∷ []) ≡ Some e
     found_before n e found =
@@ -198,7 +201,7 @@ module _ (names : ℕ → ℕ → Tag) (table : List ℕ → Option Thing) (m : 
         (sym (granted_is ∙ ap (option_map (renamed (names place))) granted))
         (turns_to names names table table' m _ sems state place sem ready_sem named ready_object stands update at_sem at_named same_names nowhere not_object
         (ap (poll_granted (is_tag m)) line_before ∙ poll_granted-rename (names place) (is_slot slot) (is_tag m) sem.line agree_granted)
-        refl refl
+        refl refl refl
         (total-append named.object.held (taken ∷ []) ∙ ap₂ (λ a b. a + b) here.held (zero-add size))
         lawful
         (rw (requests-poll_granted (is_slot slot) sem.line (record { name = slot; size = size }) granted) (requests_stay table' _ update))
@@ -207,16 +210,18 @@ module _ (names : ℕ → ℕ → Tag) (table : List ℕ → Option Thing) (m : 
         (all_weaker _ _ (λ (e : Entry Tag) h. ap (λ (t : Tag). bytes_eq e.name.name t.name) called ∙ h) named.object.held held_apart))
         (record {
           name = refl;
-          request = λ n s e other found named_n.
-              (ap (entry_named (is_slot s)) (requests-poll_granted (is_slot slot) sem.line (record { name = slot; size = size }) granted) ∙ requests_kept table' _ update n s e other found named_n, named_n);
+          kind = refl;
+          same_kind = refl;
+          request = λ n s e other found other_mode named_n.
+              (ap (entry_named (is_slot s)) (requests-poll_granted (is_slot slot) sem.line (record { name = slot; size = size }) granted) ∙ requests_kept table' _ update n s e other_mode other found named_n, named_n);
           permit = λ n e other found. found_before n e found;
         })
-        (with_object named (quieted ready_object), at_set_same state place named (with_object named (quieted ready_object)) at_named, found_last)
+        (with_object named (quieted ready_object), at_set_same state place named (with_object named (quieted ready_object)) at_named, found_last, subst (λ k. Fits k mode size) (sym here.kind) fits)
         Ready)
 
   -- it is cancelled
-  module _ (table' : List ℕ → Option Thing) (update : Updated table table' m None) (lawful : IsLawful (cancel (is_slot slot) sem.line) sem.held) where
-    abbrev pub cancelled_sem : SemaphoreState
+  module _ (table' : List ℕ → Option Thing) (update : Updated table table' m None) (lawful : IsSteady (record sem { line = cancel (is_slot slot) sem.line })) where
+    abbrev pub cancelled_sem : ObjectState
     cancelled_sem = record sem { line = cancel (is_slot slot) sem.line }
 
     abbrev cancelled_object : Object Tag
@@ -228,13 +233,15 @@ module _ (names : ℕ → ℕ → Tag) (table : List ℕ → Option Thing) (m : 
         (sym (not_held named.object.held held_apart))
         (turns_to names names table table' m None sems state place sem cancelled_sem named cancelled_object stands update at_sem at_named same_names nowhere not_object
         (ap (cancel (is_tag m)) line_before ∙ cancel-rename_requests (names place) (is_slot slot) (is_tag m) sem.line agree)
-        refl refl here.held lawful
+        refl refl refl here.held lawful
         (rw (requests-cancel (is_slot slot) sem.line) (requests_stay table' _ update))
         (permits_stay table' _ update) here.held_once
         (record {
           name = refl;
-          request = λ n s e other found named_n.
-              (ap (entry_named (is_slot s)) (requests-cancel (is_slot slot) sem.line) ∙ requests_kept table' _ update n s e other found named_n, named_n);
+          kind = refl;
+          same_kind = refl;
+          request = λ n s e other found other_mode named_n.
+              (ap (entry_named (is_slot s)) (requests-cancel (is_slot slot) sem.line) ∙ requests_kept table' _ update n s e other_mode other found named_n, named_n);
           permit = λ n e other found. found;
         })
         tt

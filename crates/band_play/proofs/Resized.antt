@@ -56,14 +56,14 @@ module _ {N : Type 0} (is : N → Bool) (size : ℕ) where
       ∙ found-resize es found (sym (found_later e es h) ∙ own))
 
   -- where the others have it, and the one with its new size
-  pub all-resize : (Q : Entry N → Type 0) (es : List (Entry N)) → ((e : Entry N) → is e.name ≡ true → Q (record e { size = size })) → AllByRecursion Q (without is es) → AllByRecursion Q (resize is size es)
-  all-resize Q [] changes others = tt
-  all-resize Q (e ∷ es) changes others =
+  pub all-resize : (P Q : Entry N → Type 0) (es : List (Entry N)) → ((e : Entry N) → P e → is e.name ≡ true → Q (record e { size = size })) → AllByRecursion P es → AllByRecursion Q (without is es) → AllByRecursion Q (resize is size es)
+  all-resize P Q [] changes each others = tt
+  all-resize P Q (e ∷ es) changes each others =
       by_bool (is e.name)
-      (λ h. rw (resized e es h) (changes e h, subst (AllByRecursion Q) (cond_true (is e.name) es (e ∷ without is es) h) others))
+      (λ h. rw (resized e es h) (changes e each.0 h, subst (AllByRecursion Q) (cond_true (is e.name) es (e ∷ without is es) h) others))
       (λ h.
       let rest : AllByRecursion Q (e ∷ without is es) = subst (AllByRecursion Q) (cond_false (is e.name) es (e ∷ without is es) h) others in
-      rw (passed e es h) (rest.0, all-resize Q es changes rest.1))
+      rw (passed e es h) (rest.0, all-resize P Q es changes each.1 rest.1))
 
 -- another name keeps its entry
 pub other-resize : {N : Type 0} (is other : N → Bool) (size : ℕ) (es : List (Entry N)) → AllByRecursion (λ (e : Entry N). other e.name ≡ true → is e.name ≡ false) es → entry_named other (resize is size es) ≡ entry_named other es

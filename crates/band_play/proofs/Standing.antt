@@ -6,10 +6,11 @@ use Rattle.std.proofs.lemmas.Bool.{false≢true}
 use Rattle.std.proofs.lemmas.Slice.Eq.{bytes_eq-Decides}
 use Rattle.band_balance.specs.Line.{Entry, requests, rename, renamed}
 use Rattle.band_balance.proofs.Rename.{requests-rename}
-use Rattle.band_sem.specs.Semaphore.{SemaphoreState, is_slot}
+use Rattle.band_sem.specs.Semaphore.{is_slot}
+use Rattle.band_play.specs.Objects.{ObjectState}
 use Rattle.band_play.specs.declared.thing.Thing.{Thing}
 use Rattle.band_play.specs.declared.thing.Thing.TheVariants as things
-use Rattle.band_play.specs.State.{State, Named, Tag, is_tag, permit_tag, stands_in, Standing, Absent, AnObject, ARequest, AHolding, standing, standing_from}
+use Rattle.band_play.specs.State.{State, Named, Tag, is_tag, tag, stands_in, Standing, Absent, AnObject, ARequest, AHolding, standing, standing_from}
 use Rattle.band_play.specs.Table.{StandsAt, StandsUnder, IsKnown, quiet}
 use Rattle.band_play.proofs.Lists.{by_test, passing, any_from_find, Along, along_from_places, Somewhere, somewhere_at, also_at}
 
@@ -25,7 +26,7 @@ abbrev pub standing_of : Option Thing → Standing
 standing_of None = Absent
 standing_of (Some (things.Object place)) = AnObject place
 standing_of (Some (things.Request place request)) = ARequest place
-standing_of (Some (things.Permit permit)) = AHolding permit.of
+standing_of (Some (things.Holding permit)) = AHolding permit.of
 
 -- what the scan finds at one object is what was to be found
 pub record FindsAt (found : Standing) (name : List ℕ) (place : ℕ) (named : Named) : Type 0 where
@@ -61,16 +62,16 @@ stands_renamed : (name : List ℕ) (names : ℕ → Tag) (entries : List (Entry 
 stands_renamed name names [] = refl
 stands_renamed name names (e ∷ es) = ap (λ b. is_tag name (names e.name) || b) (stands_renamed name names es)
 
-requests_named : (names : ℕ → Tag) (sem : SemaphoreState) (named : Named) → named.object.line ≡ rename names (quiet sem.line) → requests named.object.line ≡ map (renamed names) (requests sem.line)
+requests_named : (names : ℕ → Tag) (sem : ObjectState) (named : Named) → named.object.line ≡ rename names (quiet sem.line) → requests named.object.line ≡ map (renamed names) (requests sem.line)
 requests_named names sem named same = ap requests same ∙ requests-rename names (quiet sem.line)
 
 -- whether a name stands among the requests of an object
-pub requested : (name : List ℕ) (names : ℕ → Tag) (sem : SemaphoreState) (named : Named) → named.object.line ≡ rename names (quiet sem.line)
+pub requested : (name : List ℕ) (names : ℕ → Tag) (sem : ObjectState) (named : Named) → named.object.line ≡ rename names (quiet sem.line)
     → stands_in name (requests named.object.line) ≡ list_any (λ e. is_tag name (names e.name)) (requests sem.line)
 requested name names sem named same = ap (stands_in name) (requests_named names sem named same) ∙ stands_renamed name names (requests sem.line)
 
-module _ (names : ℕ → ℕ → Tag) (table : List ℕ → Option Thing) (sems : List SemaphoreState) (state : State) (stands : StandsUnder names table sems state) where
-  finds_at : (name : List ℕ) (place : ℕ) (named : Named) (sem : SemaphoreState) → StandsAt table (names place) place sem named → FindsAt (standing_of (table name)) name place named
+module _ (names : ℕ → ℕ → Tag) (table : List ℕ → Option Thing) (sems : List ObjectState) (state : State) (stands : StandsUnder names table sems state) where
+  finds_at : (name : List ℕ) (place : ℕ) (named : Named) (sem : ObjectState) → StandsAt table (names place) place sem named → FindsAt (standing_of (table name)) name place named
   finds_at name place named sem at = record {
     object = λ h. sym (ap standing_of (ap table (same_bytes name named.name h) ∙ at.known));
     request = λ h.
@@ -91,15 +92,15 @@ module _ (names : ℕ → ℕ → Tag) (table : List ℕ → Option Thing) (sems
   shows name None known = inl refl
   shows name (Some (things.Object place)) known =
       inr (somewhere_at (Shows name) state place known.0 known.1 (inl (bytes_same name known.0.name (sym known.2))))
-  shows name (Some (things.Request place request)) (sem, slot, there, is, found, called) =
+  shows name (Some (things.Request place request)) (sem, slot, there, is, found, called, fits) =
       let other = also_at state sems place sem (sym stands.size) there in
       let at = stands.each place sem other.0 there other.1 in
       let tagged : is_tag name (names place slot) ≡ true = ap (λ t. is_tag name t) called ∙ bytes_same name name refl in
       inr (somewhere_at (Shows name) state place other.0 other.1
       (inr (inl (requested name (names place) sem other.0 at.line ∙ any_from_find (λ e. is_tag name (names place e.name)) (λ e. is_slot slot e.name) (requests sem.line) (record { name = slot; size = request.size }) found tagged))))
-  shows name (Some (things.Permit permit)) (named, there, found) =
+  shows name (Some (things.Holding permit)) (named, there, found, fits) =
       inr (somewhere_at (Shows name) state permit.of named there
-      (inr (inr (any_from_find (λ e. is_tag name e.name) (λ e. is_tag name e.name) named.object.held (record { name = permit_tag name; size = permit.count }) found (bytes_same name name refl)))))
+      (inr (inr (any_from_find (λ e. is_tag name e.name) (λ e. is_tag name e.name) named.object.held (record { name = tag permit.mode name; size = permit.count }) found (bytes_same name name refl)))))
 
   pub standing_is : (name : List ℕ) → standing name state ≡ standing_of (table name)
   standing_is name = scan (standing_of (table name)) name 0 state (finds name) (shows name (table name) (stands.every name))

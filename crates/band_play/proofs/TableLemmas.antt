@@ -9,26 +9,24 @@ use Rattle.std.specs.Cmp.Lexicographic.{slice_cmp}
 use Rattle.std.specs.Option.{IsSome}
 use Rattle.std.specs.Result.{OnErr, is_ok}
 use Rattle.std.proofs.lemmas.Option.{none-some}
-use Rattle.band_balance.specs.Object.{new_semaphore}
-use Rattle.band_sem.specs.Semaphore.{SemaphoreState}
-use Rattle.band_sem.specs.Request.{Request}
+use Rattle.band_balance.specs.Object.{Object, Kind, Permit}
+use Rattle.band_play.specs.Objects.{ObjectState, IsSteady}
 use Rattle.band_sem.specs.declared.refusal.Refusal.{Refusal}
 use Rattle.band_sem.specs.declared.refusal.Refusal.TheVariants as refusals
-use Rattle.band_sem.specs.declared.acquire.Stage.TheVariants.{NotPolled}
+use Rattle.band_play.specs.declared.object.Want.{Want}
 use Rattle.band_play.specs.declared.thing.Thing.{Thing}
 use Rattle.band_play.specs.declared.thing.Thing.TheVariants as things
 use Rattle.band_play.specs.declared.table.Table.{Table}
 use Rattle.band_play.specs.declared.reply.Reply.{Reply}
 use Rattle.band_play.specs.declared.reply.Reply.TheVariants as replies
 use Rattle.band_play.specs.Names.{thing_at, Updated, is_object}
-use Rattle.band_play.specs.State.{standing}
-use Rattle.band_play.specs.Step.{asking, polling, dropping, making}
+use Rattle.band_play.specs.State.{State, Tag, standing}
+use Rattle.band_play.specs.Step.{Outcome, is_of, asking, polling, dropping, making}
 use Rattle.band_play.specs.Table.{Stands, IsKnown}
-use Rattle.band_balance.specs.Object.{Permit}
-use Rattle.band_play.specs.Moves.{PollsRequest, PollsThing, DropsThing, object_of, place_at}
+use Rattle.band_play.specs.Moves.{AsksFirst, PollsThing, DropsThing, object_of, place_at, mode_of, size_for}
 use Rattle.band_play.specs.Kept.{IsSound, Follows, Remains, Stays, OthersQuiet, wakes_left, wakes_of}
-use Rattle.band_play.proofs.Follow.{Matches, unchanged_table, refused_follows, ask_refused, ask_taken, ask_follows, poll_unknown, poll_follows, drop_unknown, drop_object, drop_request, drop_permit, others_quiet}
-use Rattle.band_play.proofs.Making.{make_taken, make_follows, fresh, quiet_push}
+use Rattle.band_play.proofs.Follow.{Matches, unchanged_table, refused_follows, ask_refused, ask_kind, ask_taken, ask_follows, poll_unknown, poll_follows, drop_unknown, drop_object, drop_request, drop_permit, others_quiet}
+use Rattle.band_play.proofs.Making.{make_taken, make_follows, fresh, unused, quiet_push}
 use Rattle.band_play.proofs.Sound.{quiet_all, sound_after, sound_still}
 
 -- two changes at one name are one
@@ -55,23 +53,23 @@ object_from_test : (o : Option Thing) → is_object o ≡ true → (place : ℕ)
 object_from_test None h = absurd (false≢true h)
 object_from_test (Some (things.Object place)) h = (place, refl)
 object_from_test (Some (things.Request place request)) h = absurd (false≢true h)
-object_from_test (Some (things.Permit permit)) h = absurd (false≢true h)
+object_from_test (Some (things.Holding permit)) h = absurd (false≢true h)
 
 -- the same names and objects
 pub remains : (old new : Table) → ((name : List ℕ) → thing_at new.names name ≡ thing_at old.names name) → new.objects.items ≡ old.objects.items → Remains old new
 remains old new same objects state stands =
-    subst (λ (s : List SemaphoreState). Stands (thing_at new.names) s state) (sym objects)
+    subst (λ (s : List ObjectState). Stands (thing_at new.names) s state) (sym objects)
     (stands.0, unchanged_table stands.0 (thing_at old.names) (thing_at new.names) old.objects.items state same stands.1)
 
 pub stays : (old new : Table) → ((name : List ℕ) → thing_at new.names name ≡ thing_at old.names name) → new.objects.items ≡ old.objects.items → new.last ≡ old.last → Stays old new
 stays old new same objects last = (
   remains old new same objects,
-  ap (λ (s : List SemaphoreState). wakes_of (slice_get s new.last)) objects ∙ ap (λ k. wakes_of (slice_get old.objects.items k)) last,
+  ap (λ (s : List ObjectState). wakes_of (slice_get s new.last)) objects ∙ ap (λ k. wakes_of (slice_get old.objects.items k)) last,
 )
 
 pub others_stay : (old new : Table) → IsSound old → new.objects.items ≡ old.objects.items → new.last ≡ old.last → OthersQuiet new.last new.objects.items
 others_stay old new sound objects last =
-    subst (λ (s : List SemaphoreState). OthersQuiet new.last s) (sym objects) (subst (λ k. OthersQuiet k old.objects.items) (sym last) sound.others)
+    subst (λ (s : List ObjectState). OthersQuiet new.last s) (sym objects) (subst (λ k. OthersQuiet k old.objects.items) (sym last) sound.others)
 
 pub sound_same : (old new : Table) → IsSound old → ((name : List ℕ) → thing_at new.names name ≡ thing_at old.names name) → new.objects.items ≡ old.objects.items → new.last ≡ old.last → IsSound new
 sound_same old new sound same objects last = sound_still old new sound (remains old new same objects) (others_stay old new sound objects last)
@@ -80,47 +78,57 @@ module _ (old : Table) (sound : IsSound old) (none : wakes_left old ≡ []) wher
   abbrev at_old : List ℕ → Option Thing
   at_old = thing_at old.names
 
-  abbrev sems : List SemaphoreState
+  abbrev sems : List ObjectState
   sems = old.objects.items
 
-  quiet : (k : ℕ) (s : SemaphoreState) → slice_get sems k ≡ Some s → s.line.wakes ≡ []
+  quiet : (k : ℕ) (s : ObjectState) → slice_get sems k ≡ Some s → s.line.wakes ≡ []
   quiet = quiet_all old sound none
 
-  pub ask_refuses : (made of : List ℕ) (n waker : ℕ) (refusal : Refusal) → object_of (at_old of) ≡ Err refusal
-      → Follows (λ state. asking (standing of state) made n waker state) old (replies.Refused refusal) old
-  ask_refuses made of n waker refusal e state stands =
-      refused_follows stands.0 at_old sems state old.last _ refusal stands.1 none (ask_refused stands.0 at_old sems state stands.1 made of n waker refusal e)
+  module _ (want : Want) (made of : List ℕ) (waker : ℕ) where
+    -- the call of a request
+    abbrev pub asks : State → Outcome
+    asks state = asking (mode_of want) (size_for want) (standing of state) made waker state
 
-  pub ask_takes : (made of : List ℕ) (n waker place : ℕ) → object_of (at_old of) ≡ Ok place → place < length sems → IsSome (at_old made)
-      → Follows (λ state. asking (standing of state) made n waker state) old (replies.Refused refusals.Taken) old
-  ask_takes made of n waker place object there live state stands =
-      let sem = some_there sems place there in
-      let thing = some_of (at_old made) live in
-      refused_follows stands.0 at_old sems state old.last _ refusals.Taken stands.1 none
-      (ask_taken stands.0 at_old sems state stands.1 made of n waker place sem.0 thing.0 object sem.1 thing.1)
+    pub ask_refuses : (refusal : Refusal) → object_of (at_old of) ≡ Err refusal → Follows asks old (replies.Refused refusal) old
+    ask_refuses refusal e state stands =
+        refused_follows stands.0 at_old sems state old.last _ refusal stands.1 none (ask_refused stands.0 at_old sems state stands.1 (mode_of want) (size_for want) made of waker refusal e)
+
+    pub ask_other_kind : (place : ℕ) (sem : ObjectState) → object_of (at_old of) ≡ Ok place → slice_get sems place ≡ Some sem → is_of sem.kind (mode_of want) ≡ false
+        → Follows asks old (replies.Refused refusals.Kind) old
+    ask_other_kind place sem object there other state stands =
+        refused_follows stands.0 at_old sems state old.last _ refusals.Kind stands.1 none
+        (ask_kind stands.0 at_old sems state stands.1 (mode_of want) (size_for want) made of waker place sem object there other)
+
+    pub ask_takes : (place : ℕ) (sem : ObjectState) → object_of (at_old of) ≡ Ok place → slice_get sems place ≡ Some sem → is_of sem.kind (mode_of want) ≡ true → IsSome (at_old made)
+        → Follows asks old (replies.Refused refusals.Taken) old
+    ask_takes place sem object there offers live state stands =
+        let thing = some_of (at_old made) live in
+        refused_follows stands.0 at_old sems state old.last _ refusals.Taken stands.1 none
+        (ask_taken stands.0 at_old sems state stands.1 (mode_of want) (size_for want) made of waker place sem thing.0 object there offers thing.1)
 
   module _ (new : Table) where
     abbrev at_new : List ℕ → Option Thing
     at_new = thing_at new.names
 
-    pub ask_done : (made of : List ℕ) (n waker place : ℕ) (thing : Thing) (reply : Reply) → object_of (at_old of) ≡ Ok place → at_old made ≡ None → Updated at_old at_new made (Some thing)
-        → PollsRequest place (record { of = place; size = n; stage = NotPolled }) waker sems thing reply new.objects.items → new.last ≡ place
-        → Follows (λ state. asking (standing of state) made n waker state) old reply new
-    ask_done made of n waker place thing reply object absent update polls last state stands =
-        subst (λ k. Matches (asking (standing of state) made n waker state) reply at_new k new.objects.items) (sym last)
-        (ask_follows stands.0 at_old sems state stands.1 at_new new.objects.items made of n waker place thing reply object absent quiet update polls)
+    pub ask_done : (want : Want) (made of : List ℕ) (waker place : ℕ) (sem : ObjectState) (thing : Thing) (reply : Reply) → object_of (at_old of) ≡ Ok place → slice_get sems place ≡ Some sem
+        → is_of sem.kind (mode_of want) ≡ true → at_old made ≡ None → Updated at_old at_new made (Some thing)
+        → AsksFirst place want waker sems thing reply new.objects.items → new.last ≡ place
+        → Follows (asks want made of waker) old reply new
+    ask_done want made of waker place sem thing reply object there offers absent update first last state stands =
+        subst (λ k. Matches (asks want made of waker state) reply at_new k new.objects.items) (sym last)
+        (ask_follows stands.0 at_old sems state stands.1 want at_new new.objects.items made of waker place sem thing reply object there offers absent quiet update first)
 
-    pub polls_quiet : (place : ℕ) (request : Request) (waker : ℕ) (thing : Thing) (reply : Reply) → PollsRequest place request waker sems thing reply new.objects.items → new.last ≡ place → OthersQuiet new.last new.objects.items
-    polls_quiet place request waker thing reply polls last =
+    pub polls_quiet : (want : Want) (place : ℕ) (waker : ℕ) (thing : Thing) (reply : Reply) → AsksFirst place want waker sems thing reply new.objects.items → new.last ≡ place → OthersQuiet new.last new.objects.items
+    polls_quiet want place waker thing reply first last =
         subst (λ k. OthersQuiet k new.objects.items) (sym last)
-        (subst (λ (s : List SemaphoreState). OthersQuiet place s) (sym polls.set) (others_quiet sems place polls.after quiet))
+        (subst (λ (s : List ObjectState). OthersQuiet place s) (sym first.polls.set) (others_quiet sems place first.polls.after quiet))
 
     pub poll_none : (name : List ℕ) (waker : ℕ) → at_old name ≡ None → ((n : List ℕ) → at_new n ≡ at_old n) → new.objects.items ≡ sems → new.last ≡ old.last
         → Follows (λ state. polling (standing name state) name waker state) old (replies.Refused refusals.Unknown) new
     poll_none name waker absent same objects last state stands =
         let said = poll_unknown stands.0 at_old sems state stands.1 quiet name waker old.last absent in
         subst (λ k. Matches (polling (standing name state) name waker state) (replies.Refused refusals.Unknown) at_new k new.objects.items) (sym last)
-        (subst (λ (s : List SemaphoreState). Matches (polling (standing name state) name waker state) (replies.Refused refusals.Unknown) at_new old.last s) (sym objects)
+        (subst (λ (s : List ObjectState). Matches (polling (standing name state) name waker state) (replies.Refused refusals.Unknown) at_new old.last s) (sym objects)
         (said.0, said.1, (said.2.0, unchanged_table said.2.0 at_old at_new sems _ same said.2.1)))
 
     pub drop_none : (name : List ℕ) → at_old name ≡ None → ((n : List ℕ) → at_new n ≡ at_old n) → new.objects.items ≡ sems → new.last ≡ old.last
@@ -128,7 +136,7 @@ module _ (old : Table) (sound : IsSound old) (none : wakes_left old ≡ []) wher
     drop_none name absent same objects last state stands =
         let said = drop_unknown stands.0 at_old sems state stands.1 quiet name old.last absent in
         subst (λ k. Matches (dropping (standing name state) name state) (replies.Refused refusals.Unknown) at_new k new.objects.items) (sym last)
-        (subst (λ (s : List SemaphoreState). Matches (dropping (standing name state) name state) (replies.Refused refusals.Unknown) at_new old.last s) (sym objects)
+        (subst (λ (s : List ObjectState). Matches (dropping (standing name state) name state) (replies.Refused refusals.Unknown) at_new old.last s) (sym objects)
         (said.0, said.1, (said.2.0, unchanged_table said.2.0 at_old at_new sems _ same said.2.1)))
 
     pub poll_done : (name : List ℕ) (waker : ℕ) (found thing : Thing) (reply : Reply) → at_old name ≡ Some found → PollsThing found waker sems thing reply new.objects.items → Updated at_old at_new name (Some thing) → new.last ≡ place_at found
@@ -138,13 +146,13 @@ module _ (old : Table) (sound : IsSound old) (none : wakes_left old ≡ []) wher
         (poll_follows stands.0 at_old sems state stands.1 quiet at_new new.objects.items name waker found thing reply is polls update)
 
     all_others : (place : ℕ) → new.objects.items ≡ sems → OthersQuiet place new.objects.items
-    all_others place objects = subst (λ (s : List SemaphoreState). OthersQuiet place s) (sym objects) (λ k s apart there. quiet k s there)
+    all_others place objects = subst (λ (s : List ObjectState). OthersQuiet place s) (sym objects) (λ k s apart there. quiet k s there)
 
     poll_others : (waker : ℕ) (found thing : Thing) (reply : Reply) → PollsThing found waker sems thing reply new.objects.items → OthersQuiet (place_at found) new.objects.items
     poll_others waker (things.Object place) thing reply (a, b, objects) = all_others place objects
-    poll_others waker (things.Permit permit) thing reply (a, b, objects) = all_others permit.of objects
+    poll_others waker (things.Holding permit) thing reply (a, b, objects) = all_others permit.of objects
     poll_others waker (things.Request place request) thing reply polls =
-        subst (λ (s : List SemaphoreState). OthersQuiet place s) (sym polls.set) (others_quiet sems place polls.after quiet)
+        subst (λ (s : List ObjectState). OthersQuiet place s) (sym polls.set) (others_quiet sems place polls.after quiet)
 
     pub poll_sound : (name : List ℕ) (waker : ℕ) (found thing : Thing) (reply : Reply) → at_old name ≡ Some found → PollsThing found waker sems thing reply new.objects.items → Updated at_old at_new name (Some thing) → new.last ≡ place_at found → IsSound new
     poll_sound name waker found thing reply is polls update last =
@@ -153,16 +161,16 @@ module _ (old : Table) (sound : IsSound old) (none : wakes_left old ≡ []) wher
 
     drop_others : (found : Thing) → DropsThing found sems new.objects.items → OthersQuiet (place_at found) new.objects.items
     drop_others (things.Object place) objects = all_others place objects
-    drop_others (things.Permit permit) becomes =
-        subst (λ (s : List SemaphoreState). OthersQuiet permit.of s) (sym becomes.set) (others_quiet sems permit.of _ quiet)
+    drop_others (things.Holding permit) becomes =
+        subst (λ (s : List ObjectState). OthersQuiet permit.of s) (sym becomes.set) (others_quiet sems permit.of _ quiet)
     drop_others (things.Request place request) becomes =
-        subst (λ (s : List SemaphoreState). OthersQuiet place s) (sym becomes.set) (others_quiet sems place _ quiet)
+        subst (λ (s : List ObjectState). OthersQuiet place s) (sym becomes.set) (others_quiet sems place _ quiet)
 
     -- what was dropped is no object
     pub drop_done : (name : List ℕ) (found : Thing) → is_object (Some found) ≡ false → at_old name ≡ Some found → DropsThing found sems new.objects.items → Updated at_old at_new name None → new.last ≡ place_at found
         → Follows (λ state. dropping (standing name state) name state) old replies.Done new
     drop_done name (things.Object place) apart is drops update last state stands = absurd (false≢true (sym apart))
-    drop_done name (things.Permit permit) apart is drops update last state stands =
+    drop_done name (things.Holding permit) apart is drops update last state stands =
         subst (λ k. Matches (dropping (standing name state) name state) replies.Done at_new k new.objects.items) (sym last)
         (drop_permit stands.0 at_old sems state stands.1 quiet at_new new.objects.items name permit is drops update)
     drop_done name (things.Request place request) apart is drops update last state stands =
@@ -174,27 +182,28 @@ module _ (old : Table) (sound : IsSound old) (none : wakes_left old ≡ []) wher
         sound_after (λ state. dropping (standing name state) name state) old replies.Done new sound (drop_done name found apart is drops update last)
         (subst (λ k. OthersQuiet k new.objects.items) (sym last) (drop_others found drops))
 
-    -- a new semaphore
-    pub make_done : (made : List ℕ) (n : ℕ) → n < 2 ^ 64 → at_old made ≡ None → Updated at_old at_new made (Some (things.Object (length sems))) → new.objects.items ≡ sems ++ fresh (length sems) n ∷ []
-        → Follows (making made (new_semaphore n)) old replies.Done new
-    make_done made n fits absent update objects state stands =
-        subst (λ (s : List SemaphoreState). Matches (making made (new_semaphore n) state) replies.Done at_new new.last s) (sym objects)
-        (make_follows stands.0 at_old sems state stands.1 at_new made n fits absent update new.last
-        (pushed_quiet (slice_get (sems ++ fresh (length sems) n ∷ []) new.last) (quiet_push sems (length sems) n quiet new.last)))
-      where
-        pushed_quiet : (o : Option SemaphoreState) → ((s : SemaphoreState) → o ≡ Some s → s.line.wakes ≡ []) → wakes_of o ≡ []
-        pushed_quiet None each = refl
-        pushed_quiet (Some s) each = each s refl
+    -- a new object
+    module _ (kind : Kind) (made : List ℕ) (n : ℕ) (steady : IsSteady (fresh kind (length sems) n)) (absent : at_old made ≡ None)
+        (update : Updated at_old at_new made (Some (things.Object (length sems)))) (objects : new.objects.items ≡ sems ++ fresh kind (length sems) n ∷ []) where
+      pub make_done : Follows (making made (unused kind n)) old replies.Done new
+      make_done state stands =
+          subst (λ (s : List ObjectState). Matches (making made (unused kind n) state) replies.Done at_new new.last s) (sym objects)
+          (make_follows stands.0 at_old sems state stands.1 at_new kind made n steady absent update new.last
+          (pushed_quiet (slice_get (sems ++ fresh kind (length sems) n ∷ []) new.last) (quiet_push sems kind (length sems) n quiet new.last)))
+        where
+          pushed_quiet : (o : Option ObjectState) → ((s : ObjectState) → o ≡ Some s → s.line.wakes ≡ []) → wakes_of o ≡ []
+          pushed_quiet None each = refl
+          pushed_quiet (Some s) each = each s refl
 
-    pub make_sound : (made : List ℕ) (n : ℕ) → n < 2 ^ 64 → at_old made ≡ None → Updated at_old at_new made (Some (things.Object (length sems))) → new.objects.items ≡ sems ++ fresh (length sems) n ∷ [] → IsSound new
-    make_sound made n fits absent update objects =
-        sound_after (making made (new_semaphore n)) old replies.Done new sound (make_done made n fits absent update objects)
-        (subst (λ (s : List SemaphoreState). OthersQuiet new.last s) (sym objects) (λ k s apart there. quiet_push sems (length sems) n quiet k s there))
+      pub make_sound : IsSound new
+      make_sound =
+          sound_after (making made (unused kind n)) old replies.Done new sound make_done
+          (subst (λ (s : List ObjectState). OthersQuiet new.last s) (sym objects) (λ k s apart there. quiet_push sems kind (length sems) n quiet k s there))
 
-  pub make_takes : (made : List ℕ) (n : ℕ) → IsSome (at_old made) → Follows (making made (new_semaphore n)) old (replies.Refused refusals.Taken) old
-  make_takes made n live state stands =
+  pub make_takes : (made : List ℕ) (made_object : Object Tag) → IsSome (at_old made) → Follows (making made made_object) old (replies.Refused refusals.Taken) old
+  make_takes made made_object live state stands =
       let thing = some_of (at_old made) live in
-      make_taken stands.0 at_old sems state stands.1 made n old.last thing.0 quiet thing.1
+      make_taken stands.0 at_old sems state stands.1 made made_object old.last thing.0 quiet thing.1
 
   pub drop_kind : (name : List ℕ) → is_object (at_old name) ≡ true → Follows (λ state. dropping (standing name state) name state) old (replies.Refused refusals.Kind) old
   drop_kind name is state stands =
@@ -214,13 +223,13 @@ on_err (Err e) P p = p
 pub object_placed : (table table' : List ℕ → Option Thing) (name : List ℕ) (place count : ℕ) → place ≡ count → Updated table table' name (Some (things.Object place)) → Updated table table' name (Some (things.Object count))
 object_placed table table' name place count same update = subst (λ k. Updated table table' name (Some (things.Object k))) same update
 
-pub pushed : {A E : Type 0} (old room new : List SemaphoreState) (result : Result A E) (x : A) (sem : SemaphoreState) (place n : ℕ)
-    → new ≡ cond (is_ok result) (room ++ sem ∷ []) room → result ≡ Ok x → room ≡ old → sem ≡ fresh place n → place ≡ length old → new ≡ old ++ fresh (length old) n ∷ []
-pushed old room new result x sem place n items ok same is count =
-    items ∙ ap (λ r. cond (is_ok r) (room ++ sem ∷ []) room) ok ∙ ap (λ (xs : List SemaphoreState). xs ++ sem ∷ []) same ∙ ap (λ (s : SemaphoreState). old ++ s ∷ []) (is ∙ ap (λ k. fresh k n) count)
+pub pushed : {A E : Type 0} (old room new : List ObjectState) (result : Result A E) (x : A) (sem : ObjectState) (kind : Kind) (place n : ℕ)
+    → new ≡ cond (is_ok result) (room ++ sem ∷ []) room → result ≡ Ok x → room ≡ old → sem ≡ fresh kind place n → place ≡ length old → new ≡ old ++ fresh kind (length old) n ∷ []
+pushed old room new result x sem kind place n items ok same is count =
+    items ∙ ap (λ r. cond (is_ok r) (room ++ sem ∷ []) room) ok ∙ ap (λ (xs : List ObjectState). xs ++ sem ∷ []) same ∙ ap (λ (s : ObjectState). old ++ s ∷ []) (is ∙ ap (λ k. fresh kind k n) count)
 
 -- nothing stands for the state with no object
-pub stands_nowhere : (names : BTreeMap (List ℕ) Thing) (sems : List SemaphoreState) → names.entries ≡ [] → sems ≡ [] → Stands (thing_at names) sems []
+pub stands_nowhere : (names : BTreeMap (List ℕ) Thing) (sems : List ObjectState) → names.entries ≡ [] → sems ≡ [] → Stands (thing_at names) sems []
 stands_nowhere names sems no_names no_sems = (
   (λ place slot. record { name = []; mode = Permit }),
   record {

@@ -6,11 +6,12 @@ use Rattle.std.proofs.lemmas.Bool.{false≢true, eqb-true}
 use Rattle.std.proofs.lemmas.Bool.Decides.{Decides-eqb}
 use Rattle.band_balance.specs.Line.{Entry, Line, requests, rename, total}
 use Rattle.band_balance.specs.Object.{Object, Turn, Answer, turn}
-use Rattle.band_sem.specs.Semaphore.{SemaphoreState, is_slot, IsLawful}
+use Rattle.band_sem.specs.Semaphore.{is_slot}
+use Rattle.band_play.specs.Objects.{IsSteady, ObjectState}
 use Rattle.band_play.specs.declared.thing.Thing.{Thing}
 use Rattle.band_play.specs.declared.thing.Thing.TheVariants as things
 use Rattle.band_play.specs.State.{State, Named, Tag, is_tag}
-use Rattle.band_play.specs.Table.{StandsAt, StandsUnder, IsKnown, request_at, permit_at, quiet}
+use Rattle.band_play.specs.Table.{StandsAt, StandsUnder, IsKnown, request_at, holding_at, quiet}
 use Rattle.band_play.proofs.Lists.{by_bool}
 use Rattle.band_play.proofs.Standing.{same_bytes, bytes_same}
 use Rattle.band_play.specs.Names.{Updated}
@@ -22,7 +23,7 @@ abbrev pub with_object : Named → Object Tag → Named
 with_object named object = record named { object = object }
 
 -- what a turn leaves is stood for, and the semaphore has its wakes
-pub record TurnsTo (names : ℕ → ℕ → Tag) (table : List ℕ → Option Thing) (sems : List SemaphoreState) (state : State) (place : ℕ) (sem : SemaphoreState) (named : Named) (answer : Answer) (t : Turn Tag) : Type 0 where
+pub record TurnsTo (names : ℕ → ℕ → Tag) (table : List ℕ → Option Thing) (sems : List ObjectState) (state : State) (place : ℕ) (sem : ObjectState) (named : Named) (answer : Answer) (t : Turn Tag) : Type 0 where
   pub answer_is : t.answer ≡ answer
   pub woken : t.woken ≡ sem.line.wakes
   pub stands : StandsUnder names table (slice_set sems place sem) (slice_set state place (with_object named t.object))
@@ -31,17 +32,17 @@ pub record TurnsTo (names : ℕ → ℕ → Tag) (table : List ℕ → Option Th
 abbrev pub quieted : Object Tag → Object Tag
 quieted object = record object { line = quiet object.line }
 
-module _ (names names' : ℕ → ℕ → Tag) (table table' : List ℕ → Option Thing) (m : List ℕ) (w : Option Thing) (sems : List SemaphoreState) (state : State)
-    (place : ℕ) (sem sem' : SemaphoreState) (named : Named) (object : Object Tag)
+module _ (names names' : ℕ → ℕ → Tag) (table table' : List ℕ → Option Thing) (m : List ℕ) (w : Option Thing) (sems : List ObjectState) (state : State)
+    (place : ℕ) (sem sem' : ObjectState) (named : Named) (object : Object Tag)
     (stands : StandsUnder names table sems state) (update : Updated table table' m w)
     (at_sem : slice_get sems place ≡ Some sem) (at_named : slice_get state place ≡ Some named)
     (same_names : (j : ℕ) → (j ≡ place → ⊥) → names' j ≡ names j)
     (nowhere_else : (j : ℕ) → (j ≡ place → ⊥) → place_of (table m) ≡ Some j → ⊥)
     (not_object : table m ≡ Some (things.Object place) → ⊥)
-    (line_is : object.line ≡ rename (names' place) sem'.line) (kind_is : object.kind ≡ named.object.kind)
-    (number_is : sem'.number ≡ sem.number) (held_is : total object.held ≡ sem'.held) (lawful : IsLawful sem'.line sem'.held)
-    (each_request : AllByRecursion (λ e. table' (names' place e.name).name ≡ Some (request_at place e)) (requests sem'.line))
-    (each_held : AllByRecursion (λ e. table' e.name.name ≡ Some (permit_at place e)) object.held)
+    (line_is : object.line ≡ rename (names' place) sem'.line) (kind_is : object.kind ≡ named.object.kind) (sem_kind : sem'.kind ≡ sem.kind)
+    (number_is : sem'.number ≡ sem.number) (held_is : total object.held ≡ sem'.held) (lawful : IsSteady sem')
+    (each_request : AllByRecursion (λ e. table' (names' place e.name).name ≡ Some (request_at place (names' place e.name).mode e)) (requests sem'.line))
+    (each_held : AllByRecursion (λ e. table' e.name.name ≡ Some (holding_at place e)) object.held)
     (held_once : IsDistinct (λ a b. bytes_eq a.name b.name) (map (λ e. e.name) object.held))
     (keeps : Keeps table (names place) (names' place) m sem sem' named (with_object named (quieted object)))
     (known : IsKnown names' (slice_set sems place sem') (slice_set state place (with_object named (quieted object))) m w) where
@@ -55,7 +56,7 @@ module _ (names names' : ℕ → ℕ → Tag) (table table' : List ℕ → Optio
     stands = stands_after names names' table table' m w sems state place sem sem' named (with_object named (quieted object)) stands update at_sem at_named same_names nowhere_else keeps
         (record {
           known = stays update named.name (things.Object place) not_object at_before.known;
-          kind = kind_is ∙ at_before.kind;
+          kind = kind_is ∙ at_before.kind ∙ sym sem_kind;
           number = number_is ∙ at_before.number;
           line = ap quiet line_is;
           held = held_is;

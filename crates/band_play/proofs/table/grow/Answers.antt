@@ -12,12 +12,12 @@ use Rattle.band_play.proofs.table.grow.Goals as goal
 pub returns : goal.returns
 returns c =
     let was : thing_at c.args.names.now c.args.name.now ≡ Some c.replace.result = search rules in
-    let set : Updated (thing_at c.args.names.now) (thing_at (c.get_mut.follows.lender c.replace-2.new.dest)) c.args.name.now (Some (things.Permit c.join.new.permit)) =
-    updated c.args.names.now (c.get_mut.follows.lender c.replace-2.new.dest) c.args.name.now (Some (things.Permit c.join.new.permit))
+    let set : Updated (thing_at c.args.names.now) (thing_at (c.get_mut.follows.lender c.replace-2.new.dest)) c.args.name.now (Some (things.Holding c.join.new.permit)) =
+    updated c.args.names.now (c.get_mut.follows.lender c.replace-2.new.dest) c.args.name.now (Some (things.Holding c.join.new.permit))
     (subst (λ w. Updates (slice_cmp nat_cmp) c.args.names.now (c.get_mut.follows.lender c.replace-2.new.dest) c.args.name.now (Some w)) c.replace-2.ensures.after
     ((c.get_mut.follows.holds c.replace-2.new.dest).3 (search rules))) in
     record {
       whole = c.into_permit-permit.result;
       was = ap permit_of was ∙ c.into_permit-permit.ensures;
-      updated = subst (λ (p : Permit). Updated (thing_at c.args.names.now) (thing_at (c.get_mut.follows.lender c.replace-2.new.dest)) c.args.name.now (Some (things.Permit p))) c.join.ensures set;
+      updated = subst (λ (p : Permit). Updated (thing_at c.args.names.now) (thing_at (c.get_mut.follows.lender c.replace-2.new.dest)) c.args.name.now (Some (things.Holding p))) c.join.ensures set;
     }

@@ -12,7 +12,7 @@ use Rattle.band_play.proofs.table.split_off.Goals as goal
 pub returns-clause-some : goal.returns-clause-some
 returns-clause-some c =
     let was : thing_at c.args.names.now c.args.name.now ≡ Some c.replace.result = search rules in
-    let set = updated c.args.names.now (c.get_mut.follows.lender c.replace-2.new.dest) c.args.name.now (Some (things.Permit c.split-part.new.self))
+    let set = updated c.args.names.now (c.get_mut.follows.lender c.replace-2.new.dest) c.args.name.now (Some (things.Holding c.split-part.new.self))
     (subst (λ w. Updates (slice_cmp nat_cmp) c.args.names.now (c.get_mut.follows.lender c.replace-2.new.dest) c.args.name.now (Some w)) c.replace-2.ensures.after
     ((c.get_mut.follows.holds c.replace-2.new.dest).3 (search rules))) in
     parted c.args.name.now c.args.n (thing_at c.args.names.now) (thing_at (c.get_mut.follows.lender c.replace-2.new.dest)) c.into_permit-permit.result c.split-part.new.self c.split-part.result
@@ -21,7 +21,7 @@ returns-clause-some c =
 pub returns-clause-none : goal.returns-clause-none
 returns-clause-none c =
     let was : thing_at c.args.names.now c.args.name.now ≡ Some c.replace.result = search rules in
-    let set = updated c.args.names.now (c.get_mut.follows.lender c.replace-2.new.dest) c.args.name.now (Some (things.Permit c.split-part.new.self))
+    let set = updated c.args.names.now (c.get_mut.follows.lender c.replace-2.new.dest) c.args.name.now (Some (things.Holding c.split-part.new.self))
     (subst (λ w. Updates (slice_cmp nat_cmp) c.args.names.now (c.get_mut.follows.lender c.replace-2.new.dest) c.args.name.now (Some w)) c.replace-2.ensures.after
     ((c.get_mut.follows.holds c.replace-2.new.dest).3 (search rules))) in
     short c.args.name.now c.args.n (thing_at c.args.names.now) (thing_at (c.get_mut.follows.lender c.replace-2.new.dest)) c.into_permit-permit.result c.split-part.new.self c.split-part.result

@@ -3,7 +3,7 @@ use Rattle.std.specs.List.{slice_get, slice_set}
 use Rattle.std.specs.Vec.{with_item}
 use Rattle.std.proofs.lemmas.Option.{slice_get_read}
 use Rattle.band_balance.specs.Line.{take_permits, drained}
-use Rattle.band_sem.specs.Semaphore.{SemaphoreState, IsLawful}
+use Rattle.band_play.specs.Objects.{IsSteady, ObjectState}
 use Rattle.band_play.specs.declared.reply.Reply.TheVariants as replies
 use Rattle.band_play.specs.Names.{thing_at}
 use Rattle.band_play.specs.State.{standing}
@@ -39,7 +39,7 @@ returns-clause-follows c =
     (λ names state stands.
     subst (λ (k : ℕ). Matches (draining (standing c.args.of.now state) c.args.n state) (replies.Drained k) (thing_at c.args.self.now.names) c.in-Ok.place (slice_set c.args.self.now.objects.items c.in-Ok.place (record sem { line = take_permits (drained c.args.n sem.line) sem.line }))) (sym count)
     (drain_follows names _ _ state stands c.args.of.now c.in-Ok.place sem object there (quiet_there c.args.self.now c.requires.sound c.requires.quiet c.in-Ok.place sem there) c.args.n
-    (subst (λ (s : SemaphoreState). IsLawful s.line s.held) after c.drain_permits.ensures.lawful)))
+    (subst (λ (s : ObjectState). IsSteady s) after c.drain_permits.ensures.lawful)))
 
 pub returns-clause-sound : goal.returns-clause-sound
 returns-clause-sound c =
@@ -56,4 +56,4 @@ returns-clause-sound c =
     (λ names state stands.
     subst (λ (k : ℕ). Matches (draining (standing c.args.of.now state) c.args.n state) (replies.Drained k) (thing_at c.args.self.now.names) c.in-Ok.place (slice_set c.args.self.now.objects.items c.in-Ok.place (record sem { line = take_permits (drained c.args.n sem.line) sem.line }))) (sym count)
     (drain_follows names _ _ state stands c.args.of.now c.in-Ok.place sem object there (quiet_there c.args.self.now c.requires.sound c.requires.quiet c.in-Ok.place sem there) c.args.n
-    (subst (λ (s : SemaphoreState). IsLawful s.line s.held) after c.drain_permits.ensures.lawful)))
+    (subst (λ (s : ObjectState). IsSteady s) after c.drain_permits.ensures.lawful)))

@@ -24,12 +24,12 @@ grow-requires c =
     let found = mergeable_ok c.args.kept.now c.args.spent.now _ _ c.in-Ok.place (sym c.mergeable.ensures ∙ c.in-Ok.is) in
     let first = found.0 in
     let more = c.into_permit-more.result in
-    let there : thing_at c.args.self.now.names c.args.spent.now ≡ Some (things.Permit more) = sym c.remove.ensures.before ∙ c.unwrap.ensures ∙ permit_from _ more c.into_permit-more.ensures in
+    let there : thing_at c.args.self.now.names c.args.spent.now ≡ Some (things.Holding more) = sym c.remove.ensures.before ∙ c.unwrap.ensures ∙ permit_from _ more c.into_permit-more.ensures in
     let one : first.of ≡ more.of = found.5 ∙ ap (λ (p : Permit). p.of) (permit_same found.1 more (sym found.3 ∙ there)) in
-    let sem = permit_there _ first (fits_in c.args.self.now c.args.kept.now (things.Permit first) c.requires.sound found.2) in
+    let sem = permit_there _ first (fits_in c.args.self.now c.args.kept.now (things.Holding first) c.requires.sound found.2) in
     let apart_back : bytes_eq c.args.spent.now c.args.kept.now ≡ false = other_way c.args.kept.now c.args.spent.now found.4 in
     let fits = merge_fits c.args.self.now c.args.kept.now c.args.spent.now first more sem.0 c.requires.sound found.2 there found.4 (sym one) sem.1 in
-    let still : thing_at c.remove.new.names c.args.kept.now ≡ Some (things.Permit first) = c.remove.ensures.updated.others c.args.kept.now apart_back ∙ found.2 in
+    let still : thing_at c.remove.new.names c.args.kept.now ≡ Some (things.Holding first) = c.remove.ensures.updated.others c.args.kept.now apart_back ∙ found.2 in
     record { whole = first; is = ap permit_of still; same = one; fits = omega (arith, fits.0, fits.1) }
 
 pub returns-clause-follows : goal.returns-clause-follows
@@ -37,16 +37,16 @@ returns-clause-follows c =
     let found = mergeable_ok c.args.kept.now c.args.spent.now _ _ c.in-Ok.place (sym c.mergeable.ensures ∙ c.in-Ok.is) in
     let first = found.0 in
     let more = c.into_permit-more.result in
-    let there : thing_at c.args.self.now.names c.args.spent.now ≡ Some (things.Permit more) = sym c.remove.ensures.before ∙ c.unwrap.ensures ∙ permit_from _ more c.into_permit-more.ensures in
+    let there : thing_at c.args.self.now.names c.args.spent.now ≡ Some (things.Holding more) = sym c.remove.ensures.before ∙ c.unwrap.ensures ∙ permit_from _ more c.into_permit-more.ensures in
     let one : first.of ≡ more.of = found.5 ∙ ap (λ (p : Permit). p.of) (permit_same found.1 more (sym found.3 ∙ there)) in
-    let sem = permit_there _ first (fits_in c.args.self.now c.args.kept.now (things.Permit first) c.requires.sound found.2) in
+    let sem = permit_there _ first (fits_in c.args.self.now c.args.kept.now (things.Holding first) c.requires.sound found.2) in
     let apart_back : bytes_eq c.args.spent.now c.args.kept.now ≡ false = other_way c.args.kept.now c.args.spent.now found.4 in
     let fits = merge_fits c.args.self.now c.args.kept.now c.args.spent.now first more sem.0 c.requires.sound found.2 there found.4 (sym one) sem.1 in
-    let still : thing_at c.remove.new.names c.args.kept.now ≡ Some (things.Permit first) = c.remove.ensures.updated.others c.args.kept.now apart_back ∙ found.2 in
+    let still : thing_at c.remove.new.names c.args.kept.now ≡ Some (things.Holding first) = c.remove.ensures.updated.others c.args.kept.now apart_back ∙ found.2 in
     let whole : c.grow.ensures.whole ≡ first = permit_same c.grow.ensures.whole first (sym (permit_from _ c.grow.ensures.whole c.grow.ensures.was) ∙ still) in
     let within : more.count ≤ sem.0.held = omega (arith, fits.0) in
-    let grown : Updated (thing_at c.remove.new.names) (thing_at c.grow.new.names) c.args.kept.now (Some (things.Permit (record { of = first.of; count = first.count + more.count }))) =
-    subst (λ (p : Permit). Updated (thing_at c.remove.new.names) (thing_at c.grow.new.names) c.args.kept.now (Some (things.Permit (record { of = p.of; count = p.count + more.count })))) whole c.grow.ensures.updated in
+    let grown : Updated (thing_at c.remove.new.names) (thing_at c.grow.new.names) c.args.kept.now (Some (things.Holding (record { of = first.of; count = first.count + more.count }))) =
+    subst (λ (p : Permit). Updated (thing_at c.remove.new.names) (thing_at c.grow.new.names) c.args.kept.now (Some (things.Holding (record { of = p.of; count = p.count + more.count })))) whole c.grow.ensures.updated in
     call_follows c.args.self.now c.requires.sound c.requires.quiet (λ state. merging (standing c.args.kept.now state) (standing c.args.spent.now state) c.args.kept.now c.args.spent.now state) replies.Done
     (record { names = c.grow.new.names; objects = c.args.self.now.objects; last = c.in-Ok.place })
     first.of sem.0 (sym (set_itself c.args.self.now.objects.items first.of sem.0 sem.1)) (sym found.6)
@@ -58,16 +58,16 @@ returns-clause-sound c =
     let found = mergeable_ok c.args.kept.now c.args.spent.now _ _ c.in-Ok.place (sym c.mergeable.ensures ∙ c.in-Ok.is) in
     let first = found.0 in
     let more = c.into_permit-more.result in
-    let there : thing_at c.args.self.now.names c.args.spent.now ≡ Some (things.Permit more) = sym c.remove.ensures.before ∙ c.unwrap.ensures ∙ permit_from _ more c.into_permit-more.ensures in
+    let there : thing_at c.args.self.now.names c.args.spent.now ≡ Some (things.Holding more) = sym c.remove.ensures.before ∙ c.unwrap.ensures ∙ permit_from _ more c.into_permit-more.ensures in
     let one : first.of ≡ more.of = found.5 ∙ ap (λ (p : Permit). p.of) (permit_same found.1 more (sym found.3 ∙ there)) in
-    let sem = permit_there _ first (fits_in c.args.self.now c.args.kept.now (things.Permit first) c.requires.sound found.2) in
+    let sem = permit_there _ first (fits_in c.args.self.now c.args.kept.now (things.Holding first) c.requires.sound found.2) in
     let apart_back : bytes_eq c.args.spent.now c.args.kept.now ≡ false = other_way c.args.kept.now c.args.spent.now found.4 in
     let fits = merge_fits c.args.self.now c.args.kept.now c.args.spent.now first more sem.0 c.requires.sound found.2 there found.4 (sym one) sem.1 in
-    let still : thing_at c.remove.new.names c.args.kept.now ≡ Some (things.Permit first) = c.remove.ensures.updated.others c.args.kept.now apart_back ∙ found.2 in
+    let still : thing_at c.remove.new.names c.args.kept.now ≡ Some (things.Holding first) = c.remove.ensures.updated.others c.args.kept.now apart_back ∙ found.2 in
     let whole : c.grow.ensures.whole ≡ first = permit_same c.grow.ensures.whole first (sym (permit_from _ c.grow.ensures.whole c.grow.ensures.was) ∙ still) in
     let within : more.count ≤ sem.0.held = omega (arith, fits.0) in
-    let grown : Updated (thing_at c.remove.new.names) (thing_at c.grow.new.names) c.args.kept.now (Some (things.Permit (record { of = first.of; count = first.count + more.count }))) =
-    subst (λ (p : Permit). Updated (thing_at c.remove.new.names) (thing_at c.grow.new.names) c.args.kept.now (Some (things.Permit (record { of = p.of; count = p.count + more.count })))) whole c.grow.ensures.updated in
+    let grown : Updated (thing_at c.remove.new.names) (thing_at c.grow.new.names) c.args.kept.now (Some (things.Holding (record { of = first.of; count = first.count + more.count }))) =
+    subst (λ (p : Permit). Updated (thing_at c.remove.new.names) (thing_at c.grow.new.names) c.args.kept.now (Some (things.Holding (record { of = p.of; count = p.count + more.count })))) whole c.grow.ensures.updated in
     call_sound c.args.self.now c.requires.sound c.requires.quiet (λ state. merging (standing c.args.kept.now state) (standing c.args.spent.now state) c.args.kept.now c.args.spent.now state) replies.Done
     (record { names = c.grow.new.names; objects = c.args.self.now.objects; last = c.in-Ok.place })
     first.of sem.0 (sym (set_itself c.args.self.now.objects.items first.of sem.0 sem.1)) (sym found.6)

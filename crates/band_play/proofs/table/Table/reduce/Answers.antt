@@ -3,7 +3,7 @@ use Rattle.std.specs.List.{slice_get, slice_set}
 use Rattle.std.specs.Vec.{with_item}
 use Rattle.std.proofs.lemmas.Option.{slice_get_read}
 use Rattle.band_balance.specs.Line.{take_permits, owes_too_much}
-use Rattle.band_sem.specs.Semaphore.{SemaphoreState, IsLawful}
+use Rattle.band_play.specs.Objects.{IsSteady, ObjectState}
 use Rattle.band_sem.specs.declared.errors.ReduceError.TheVariants.{Debt}
 use Rattle.band_sem.specs.declared.refusal.Refusal.TheVariants as refusals
 use Rattle.band_play.specs.declared.reply.Reply.TheVariants as replies
@@ -36,7 +36,7 @@ returns-in-Ok-reduce_permits-clause-follows g c =
     (ap (slice_set c.args.self.now.objects.items c.in-Ok.place) c.in-Ok-reduce_permits.ensures.ok) refl
     (λ names state stands. reduce_follows names _ _ state stands c.args.of.now c.in-Ok.place sem object there (quiet_there c.args.self.now c.requires.sound c.requires.quiet c.in-Ok.place sem there) c.args.n
     (refuted (owes_too_much c.args.n sem.line) (λ over. ok_no_err c.reduce_permits.result _ Debt c.in-Ok-reduce_permits.is (c.reduce_permits.ensures.debt.1 over)))
-    (subst (λ (s : SemaphoreState). IsLawful s.line s.held) c.in-Ok-reduce_permits.ensures.ok c.reduce_permits.ensures.lawful))
+    (subst (λ (s : ObjectState). IsSteady s) c.in-Ok-reduce_permits.ensures.ok c.reduce_permits.ensures.lawful))
 
 pub returns-in-Ok-reduce_permits-clause-sound : goal.returns-in-Ok-reduce_permits-clause-sound
 returns-in-Ok-reduce_permits-clause-sound g c =
@@ -50,7 +50,7 @@ returns-in-Ok-reduce_permits-clause-sound g c =
     (ap (slice_set c.args.self.now.objects.items c.in-Ok.place) c.in-Ok-reduce_permits.ensures.ok) refl
     (λ names state stands. reduce_follows names _ _ state stands c.args.of.now c.in-Ok.place sem object there (quiet_there c.args.self.now c.requires.sound c.requires.quiet c.in-Ok.place sem there) c.args.n
     (refuted (owes_too_much c.args.n sem.line) (λ over. ok_no_err c.reduce_permits.result _ Debt c.in-Ok-reduce_permits.is (c.reduce_permits.ensures.debt.1 over)))
-    (subst (λ (s : SemaphoreState). IsLawful s.line s.held) c.in-Ok-reduce_permits.ensures.ok c.reduce_permits.ensures.lawful))
+    (subst (λ (s : ObjectState). IsSteady s) c.in-Ok-reduce_permits.ensures.ok c.reduce_permits.ensures.lawful))
 
 pub returns-in-Err-Debt-clause-follows : goal.returns-in-Err-Debt-clause-follows
 returns-in-Err-Debt-clause-follows g c =

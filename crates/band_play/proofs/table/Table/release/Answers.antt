@@ -3,7 +3,7 @@ use Rattle.std.specs.List.{slice_get, slice_set}
 use Rattle.std.specs.Vec.{with_item}
 use Rattle.std.proofs.lemmas.Option.{slice_get_read}
 use Rattle.band_balance.specs.Line.{give_back, overflows}
-use Rattle.band_sem.specs.Semaphore.{SemaphoreState, IsLawful}
+use Rattle.band_play.specs.Objects.{IsSteady, ObjectState}
 use Rattle.band_sem.specs.declared.errors.ReleaseError.TheVariants.{Overflow}
 use Rattle.band_sem.specs.declared.refusal.Refusal.TheVariants as refusals
 use Rattle.band_play.specs.declared.reply.Reply.TheVariants as replies
@@ -36,7 +36,7 @@ returns-in-Ok-release-clause-follows g c =
     (ap (slice_set c.args.self.now.objects.items c.in-Ok.place) c.in-Ok-release.ensures.ok) refl
     (λ names state stands. release_follows names _ _ state stands c.args.of.now c.in-Ok.place sem object there (quiet_there c.args.self.now c.requires.sound c.requires.quiet c.in-Ok.place sem there) c.args.n
     (refuted (overflows c.args.n sem.line sem.held) (λ over. ok_no_err c.release.result _ Overflow c.in-Ok-release.is (c.release.ensures.overflow.1 over)))
-    (subst (λ (s : SemaphoreState). IsLawful s.line s.held) c.in-Ok-release.ensures.ok c.release.ensures.lawful))
+    (subst (λ (s : ObjectState). IsSteady s) c.in-Ok-release.ensures.ok c.release.ensures.lawful))
 
 pub returns-in-Ok-release-clause-sound : goal.returns-in-Ok-release-clause-sound
 returns-in-Ok-release-clause-sound g c =
@@ -50,7 +50,7 @@ returns-in-Ok-release-clause-sound g c =
     (ap (slice_set c.args.self.now.objects.items c.in-Ok.place) c.in-Ok-release.ensures.ok) refl
     (λ names state stands. release_follows names _ _ state stands c.args.of.now c.in-Ok.place sem object there (quiet_there c.args.self.now c.requires.sound c.requires.quiet c.in-Ok.place sem there) c.args.n
     (refuted (overflows c.args.n sem.line sem.held) (λ over. ok_no_err c.release.result _ Overflow c.in-Ok-release.is (c.release.ensures.overflow.1 over)))
-    (subst (λ (s : SemaphoreState). IsLawful s.line s.held) c.in-Ok-release.ensures.ok c.release.ensures.lawful))
+    (subst (λ (s : ObjectState). IsSteady s) c.in-Ok-release.ensures.ok c.release.ensures.lawful))
 
 pub returns-in-Err-release-clause-follows : goal.returns-in-Err-release-clause-follows
 returns-in-Err-release-clause-follows g c =

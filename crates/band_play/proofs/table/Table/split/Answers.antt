@@ -23,8 +23,8 @@ returns-in-Err-clause-follows c =
 pub returns-then-is_live-clause-follows : goal.returns-then-is_live-clause-follows
 returns-then-is_live-clause-follows c =
     let permit = c.in_default.field-0.now in
-    let is : thing_at c.args.self.now.names c.args.name.now ≡ Some (things.Permit permit) = permit_from _ permit c.in_default.ensures in
-    let sem = permit_there _ permit (fits_in c.args.self.now c.args.name.now (things.Permit permit) c.requires.sound is) in
+    let is : thing_at c.args.self.now.names c.args.name.now ≡ Some (things.Holding permit) = permit_from _ permit c.in_default.ensures in
+    let sem = permit_there _ permit (fits_in c.args.self.now c.args.name.now (things.Holding permit) c.requires.sound is) in
     let thing = some_of (thing_at c.args.self.now.names c.args.made.now) (c.is_live.ensures.0 c.if-is_live.true) in
     refuses c.args.self.now c.requires.sound c.requires.quiet (λ state. splitting (standing c.args.name.now state) c.args.name.now c.args.made.now c.args.n state) refusals.Taken c.args.self.now (λ n. refl) refl
     (λ names state stands. split_taken names _ _ state stands c.args.name.now permit sem.0 is sem.1 (quiet_there c.args.self.now c.requires.sound c.requires.quiet permit.of sem.0 sem.1) c.args.made.now c.args.n thing.0 thing.1)
@@ -46,10 +46,10 @@ returns-in-Some-clause-follows c =
     let apart_back : bytes_eq c.args.made.now c.args.name.now ≡ false = other_way c.args.name.now c.args.made.now apart in
     let split = c.in-Some.ensures.some in
     let permit = split.whole in
-    let is : thing_at c.args.self.now.names c.args.name.now ≡ Some (things.Permit permit) = sym (c.in_ok-reserve.ensures.ok.others c.args.name.now apart_back) ∙ permit_from _ permit split.was in
-    let sem = permit_there _ permit (fits_in c.args.self.now c.args.name.now (things.Permit permit) c.requires.sound is) in
-    let set : Updated (thing_at c.split_off.new.names) (thing_at c.set.new.names) c.args.made.now (Some (things.Permit (record { of = permit.of; count = c.args.n }))) =
-    subst (λ (p : Permit). Updated (thing_at c.split_off.new.names) (thing_at c.set.new.names) c.args.made.now (Some (things.Permit p))) split.part_is c.set.ensures in
+    let is : thing_at c.args.self.now.names c.args.name.now ≡ Some (things.Holding permit) = sym (c.in_ok-reserve.ensures.ok.others c.args.name.now apart_back) ∙ permit_from _ permit split.was in
+    let sem = permit_there _ permit (fits_in c.args.self.now c.args.name.now (things.Holding permit) c.requires.sound is) in
+    let set : Updated (thing_at c.split_off.new.names) (thing_at c.set.new.names) c.args.made.now (Some (things.Holding (record { of = permit.of; count = c.args.n }))) =
+    subst (λ (p : Permit). Updated (thing_at c.split_off.new.names) (thing_at c.set.new.names) c.args.made.now (Some (things.Holding p))) split.part_is c.set.ensures in
     call_follows c.args.self.now c.requires.sound c.requires.quiet (λ state. splitting (standing c.args.name.now state) c.args.name.now c.args.made.now c.args.n state) replies.Done
     (record { names = c.set.new.names; objects = c.args.self.now.objects; last = c.of-self.result })
     permit.of sem.0
@@ -70,10 +70,10 @@ returns-in-Some-clause-sound c =
     let apart_back : bytes_eq c.args.made.now c.args.name.now ≡ false = other_way c.args.name.now c.args.made.now apart in
     let split = c.in-Some.ensures.some in
     let permit = split.whole in
-    let is : thing_at c.args.self.now.names c.args.name.now ≡ Some (things.Permit permit) = sym (c.in_ok-reserve.ensures.ok.others c.args.name.now apart_back) ∙ permit_from _ permit split.was in
-    let sem = permit_there _ permit (fits_in c.args.self.now c.args.name.now (things.Permit permit) c.requires.sound is) in
-    let set : Updated (thing_at c.split_off.new.names) (thing_at c.set.new.names) c.args.made.now (Some (things.Permit (record { of = permit.of; count = c.args.n }))) =
-    subst (λ (p : Permit). Updated (thing_at c.split_off.new.names) (thing_at c.set.new.names) c.args.made.now (Some (things.Permit p))) split.part_is c.set.ensures in
+    let is : thing_at c.args.self.now.names c.args.name.now ≡ Some (things.Holding permit) = sym (c.in_ok-reserve.ensures.ok.others c.args.name.now apart_back) ∙ permit_from _ permit split.was in
+    let sem = permit_there _ permit (fits_in c.args.self.now c.args.name.now (things.Holding permit) c.requires.sound is) in
+    let set : Updated (thing_at c.split_off.new.names) (thing_at c.set.new.names) c.args.made.now (Some (things.Holding (record { of = permit.of; count = c.args.n }))) =
+    subst (λ (p : Permit). Updated (thing_at c.split_off.new.names) (thing_at c.set.new.names) c.args.made.now (Some (things.Holding p))) split.part_is c.set.ensures in
     call_sound c.args.self.now c.requires.sound c.requires.quiet (λ state. splitting (standing c.args.name.now state) c.args.name.now c.args.made.now c.args.n state) replies.Done
     (record { names = c.set.new.names; objects = c.args.self.now.objects; last = c.of-self.result })
     permit.of sem.0
@@ -94,8 +94,8 @@ returns-in-None-clause-follows c =
     let apart_back : bytes_eq c.args.made.now c.args.name.now ≡ false = other_way c.args.name.now c.args.made.now apart in
     let short = c.in-None.ensures.none in
     let permit = short.whole in
-    let is : thing_at c.args.self.now.names c.args.name.now ≡ Some (things.Permit permit) = sym (c.in_ok-reserve.ensures.ok.others c.args.name.now apart_back) ∙ permit_from _ permit short.was in
-    let sem = permit_there _ permit (fits_in c.args.self.now c.args.name.now (things.Permit permit) c.requires.sound is) in
+    let is : thing_at c.args.self.now.names c.args.name.now ≡ Some (things.Holding permit) = sym (c.in_ok-reserve.ensures.ok.others c.args.name.now apart_back) ∙ permit_from _ permit short.was in
+    let sem = permit_there _ permit (fits_in c.args.self.now c.args.name.now (things.Holding permit) c.requires.sound is) in
     let ended : Updated (thing_at c.args.self.now.names) (thing_at c.forget.new.names) c.args.made.now None =
     record { here = c.forget.ensures.here; others = λ n other. c.forget.ensures.others n other ∙ short.same n ∙ c.in_ok-reserve.ensures.ok.others n other } in
     let back = same_table (thing_at c.args.self.now.names) (thing_at c.forget.new.names) c.args.made.now None ended absent in
@@ -112,8 +112,8 @@ returns-in-None-clause-sound c =
     let apart_back : bytes_eq c.args.made.now c.args.name.now ≡ false = other_way c.args.name.now c.args.made.now apart in
     let short = c.in-None.ensures.none in
     let permit = short.whole in
-    let is : thing_at c.args.self.now.names c.args.name.now ≡ Some (things.Permit permit) = sym (c.in_ok-reserve.ensures.ok.others c.args.name.now apart_back) ∙ permit_from _ permit short.was in
-    let sem = permit_there _ permit (fits_in c.args.self.now c.args.name.now (things.Permit permit) c.requires.sound is) in
+    let is : thing_at c.args.self.now.names c.args.name.now ≡ Some (things.Holding permit) = sym (c.in_ok-reserve.ensures.ok.others c.args.name.now apart_back) ∙ permit_from _ permit short.was in
+    let sem = permit_there _ permit (fits_in c.args.self.now c.args.name.now (things.Holding permit) c.requires.sound is) in
     let ended : Updated (thing_at c.args.self.now.names) (thing_at c.forget.new.names) c.args.made.now None =
     record { here = c.forget.ensures.here; others = λ n other. c.forget.ensures.others n other ∙ short.same n ∙ c.in_ok-reserve.ensures.ok.others n other } in
     let back = same_table (thing_at c.args.self.now.names) (thing_at c.forget.new.names) c.args.made.now None ended absent in

@@ -4,7 +4,7 @@ use Rattle.std.specs.Vec.{with_item}
 use Rattle.std.proofs.lemmas.Option.{slice_get_read}
 use Rattle.std.proofs.lemmas.Bool.{false≢true}
 use Rattle.band_balance.specs.Line.{take_permits, is_served}
-use Rattle.band_sem.specs.Semaphore.{SemaphoreState, IsLawful}
+use Rattle.band_play.specs.Objects.{IsSteady, ObjectState}
 use Rattle.band_sem.specs.declared.refusal.Refusal.TheVariants as refusals
 use Rattle.band_play.specs.declared.reply.Reply.TheVariants as replies
 use Rattle.band_play.specs.declared.thing.Thing.TheVariants as things
@@ -60,10 +60,10 @@ returns-in-Some-clause-follows c =
     (ap (slice_set c.args.self.now.objects.items c.in-Ok.place) after) refl
     (λ names state stands. try_follows names _ _ state stands c.args.of.now c.in-Ok.place sem object there (quiet_there c.args.self.now c.requires.sound c.requires.quiet c.in-Ok.place sem there) (thing_at c.set.new.names) c.args.made.now c.args.n
     (none_from _ c.is_live.result c.is_live.ensures.1 c.if-is_live.false) (c.in-Some.ensures.served.0 refl)
-    (subst (λ (p : _). Updated (thing_at c.args.self.now.names) (thing_at c.set.new.names) c.args.made.now (Some (things.Permit p)))
+    (subst (λ (p : _). Updated (thing_at c.args.self.now.names) (thing_at c.set.new.names) c.args.made.now (Some (things.Holding p)))
     (c.in-Some.ensures.permit ∙ ap (λ (k : ℕ). record { of = k; count = c.args.n }) number)
     (updated_twice _ _ _ c.args.made.now _ _ c.in_ok-reserve.ensures.ok c.set.ensures))
-    (subst (λ (s : SemaphoreState). IsLawful s.line s.held) after c.try_acquire.ensures.lawful))
+    (subst (λ (s : ObjectState). IsSteady s) after c.try_acquire.ensures.lawful))
 
 pub returns-in-Some-clause-sound : goal.returns-in-Some-clause-sound
 returns-in-Some-clause-sound c =
@@ -79,10 +79,10 @@ returns-in-Some-clause-sound c =
     (ap (slice_set c.args.self.now.objects.items c.in-Ok.place) after) refl
     (λ names state stands. try_follows names _ _ state stands c.args.of.now c.in-Ok.place sem object there (quiet_there c.args.self.now c.requires.sound c.requires.quiet c.in-Ok.place sem there) (thing_at c.set.new.names) c.args.made.now c.args.n
     (none_from _ c.is_live.result c.is_live.ensures.1 c.if-is_live.false) (c.in-Some.ensures.served.0 refl)
-    (subst (λ (p : _). Updated (thing_at c.args.self.now.names) (thing_at c.set.new.names) c.args.made.now (Some (things.Permit p)))
+    (subst (λ (p : _). Updated (thing_at c.args.self.now.names) (thing_at c.set.new.names) c.args.made.now (Some (things.Holding p)))
     (c.in-Some.ensures.permit ∙ ap (λ (k : ℕ). record { of = k; count = c.args.n }) number)
     (updated_twice _ _ _ c.args.made.now _ _ c.in_ok-reserve.ensures.ok c.set.ensures))
-    (subst (λ (s : SemaphoreState). IsLawful s.line s.held) after c.try_acquire.ensures.lawful))
+    (subst (λ (s : ObjectState). IsSteady s) after c.try_acquire.ensures.lawful))
 
 pub returns-in-None-clause-follows : goal.returns-in-None-clause-follows
 returns-in-None-clause-follows c =
