@@ -19,15 +19,10 @@ use Rattle.band_play.specs.Moves.{object_of}
 use Rattle.band_play.proofs.Lists.{cond_false, cond_true}
 use Rattle.band_play.proofs.Standing.{standing_of}
 use Rattle.band_play.proofs.Asking.{tried_served}
-use Rattle.band_play.proofs.Follow.{Matches, by_turn, object_from, stands_as, there_for, kind_of, taken, calling_at, calling_for_at, calling_for_kind}
+use Rattle.band_play.proofs.Follow.{Matches, by_turn, object_from, stands_as, there_for, kind_of, taken, calling_at, calling_for_at}
 use Rattle.band_play.proofs.Numbers.{released_turn, reduced_turn, drained_turn, tried_in_vain, shown_turn, same_overflow, same_debt}
 
 module _ (names : ℕ → ℕ → Tag) (table : List ℕ → Option Thing) (sems : List ObjectState) (state : State) (stands : StandsUnder names table sems state) where
-  -- a call of an object of another kind
-  pub calling_other : (mode : Mode) (of : List ℕ) (place : ℕ) (sem : ObjectState) (call : ℕ → Object Tag → Outcome) → object_of (table of) ≡ Ok place → slice_get sems place ≡ Some sem → is_of sem.kind mode ≡ false
-      → calling_for mode (standing of state) call state ≡ refused refusals.Kind state
-  calling_other mode of place sem call object at_sem other = calling_for_kind names table sems state stands mode of place sem call object at_sem other
-
   module _ (of : List ℕ) (place : ℕ) (sem : ObjectState) (object : object_of (table of) ≡ Ok place) (at_sem : slice_get sems place ≡ Some sem) (quiet : sem.line.wakes ≡ []) where
     abbrev here : (named : Named) × (slice_get state place ≡ Some named) × (named.name ≡ of)
     here = there_for names table sems state stands place of (object_from (table of) place object)

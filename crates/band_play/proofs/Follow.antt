@@ -1,5 +1,5 @@
 -- Each call follows the step of the state.
-use Rattle.std.proofs.Common.{◌≡◌, ℕ, true, false, ◌==◌, List, [], Option, Some, None, Result, Ok, Err, refl, sym, ap, ap₂, ◌∙◌, subst}
+use Rattle.std.proofs.Common.{◌≡◌, ℕ, Bool, cond, true, false, ◌==◌, List, [], Option, Some, None, Result, Ok, Err, refl, sym, ap, ap₂, ◌∙◌, subst}
 use Rattle.std.specs.List.{slice_get, slice_set}
 use Rattle.std.specs.Str.{bytes_eq}
 use Rattle.std.proofs.lemmas.Bool.{false≢true, eqb-true}
@@ -26,7 +26,7 @@ use Rattle.band_play.specs.Names.{Updated}
 use Rattle.band_play.specs.State.{State, Named, Tag, is_tag, tag, standing}
 use Rattle.band_play.specs.Step.{Outcome, reply_of, refused, after_turn, turn_of, turn_at, unless_taken, is_of, on_kind, with_object, on_object, calling, calling_for, asking, polling, dropping}
 use Rattle.band_play.specs.Table.{StandsUnder, Stands, IsKnown}
-use Rattle.band_play.specs.Moves.{PollsRequest, PollsThing, AsksFirst, Becomes, IsAnswered, GivesIn, permit_answer, object_of, kind_at, given_back, cancelled_at, place_at, mode_of, size_for}
+use Rattle.band_play.specs.Moves.{PollsRequest, PollsThing, AsksFirst, Becomes, IsAnswered, GivesIn, permit_answer, object_of, offers_at, offering, kind_at, given_back, cancelled_at, place_at, mode_of, size_for}
 use Rattle.band_play.specs.declared.object.Want.{Want}
 use Rattle.band_play.specs.declared.object.Want.TheVariants as wants
 use Rattle.band_play.specs.Kept.{wakes_of, OthersQuiet}
@@ -118,6 +118,20 @@ called_with (Some (things.Object p)) refusal call state e = cc
 called_with (Some (things.Request p r)) refusal call state e = let same : refusals.Kind ≡ refusal = cc in ap (λ r. refused r state) same
 called_with (Some (things.Holding p)) refusal call state e = let same : refusals.Kind ≡ refusal = cc in ap (λ r. refused r state) same
 
+-- the place of an object of which something is asked
+pub offered_at : (mode : Mode) (sems : List ObjectState) (r : Result ℕ Refusal) (place : ℕ) → offering mode sems r ≡ Ok place → (r ≡ Ok place) × (offers_at mode (slice_get sems place) ≡ true)
+offered_at mode sems (Err r) place e = cc
+offered_at mode sems (Ok p) place e =
+    let at = go (offers_at mode (slice_get sems p)) refl e in
+    (ap Ok at.0, at.1)
+  where
+    go : (b : Bool) → offers_at mode (slice_get sems p) ≡ b → cond b (Ok p) (Err refusals.Kind) ≡ Ok place → (p ≡ place) × (offers_at mode (slice_get sems place) ≡ true)
+    go true is e = let same : p ≡ place = cc in (same, ap (λ k. offers_at mode (slice_get sems k)) (sym same) ∙ is)
+    go false is e = cc
+
+pub offers_of : (mode : Mode) (sems : List ObjectState) (place : ℕ) (sem : ObjectState) → slice_get sems place ≡ Some sem → offers_at mode (slice_get sems place) ≡ true → is_of sem.kind mode ≡ true
+offers_of mode sems place sem there offers = ap (offers_at mode) (sym there) ∙ offers
+
 -- what is offered fits
 pub want_fits : (kind : Kind) (want : Want) → is_of kind (mode_of want) ≡ true → Fits kind (mode_of want) (size_for want kind)
 want_fits Semaphore (wants.Permits n) is = tt
@@ -174,17 +188,33 @@ module _ (names : ℕ → ℕ → Tag) (table : List ℕ → Option Thing) (sems
     pub calling_for_kind : is_of sem.kind mode ≡ false → calling_for mode (standing of state) call state ≡ refused refusals.Kind state
     calling_for_kind other = on_it ∙ cond_false (is_of at.0.object.kind mode) (call place at.0.object) (refused refusals.Kind state) (same_kind ∙ other)
 
+  -- a call of an object of which nothing of the kind is asked
+  pub calling_for_refused : (mode : Mode) (of : List ℕ) (refusal : Refusal) (call : ℕ → Object Tag → Outcome) → ((place : ℕ) → object_of (table of) ≡ Ok place → (sem : ObjectState) × (slice_get sems place ≡ Some sem))
+      → offering mode sems (object_of (table of)) ≡ Err refusal → calling_for mode (standing of state) call state ≡ refused refusal state
+  calling_for_refused mode of refusal call within e = go (object_of (table of)) refl e
+    where
+      go : (r : Result ℕ Refusal) → object_of (table of) ≡ r → offering mode sems r ≡ Err refusal → calling_for mode (standing of state) call state ≡ refused refusal state
+      go (Err r) is e =
+          let same : r ≡ refusal = cc in
+          calling_refused of r (λ p. on_object mode p (call p) state) is ∙ ap (λ k. refused k state) same
+      go (Ok place) is e =
+          let there = within place is in
+          test there.0 there.1 (offers_at mode (slice_get sems place)) refl e
+        where
+          test : (sem : ObjectState) → slice_get sems place ≡ Some sem → (b : Bool) → offers_at mode (slice_get sems place) ≡ b → cond b (Ok place) (Err refusals.Kind) ≡ Err refusal → calling_for mode (standing of state) call state ≡ refused refusal state
+          test sem there true is_offered e = cc
+          test sem there false other e =
+              let same : refusals.Kind ≡ refusal = cc in
+              calling_for_kind mode of place sem call is there (ap (offers_at mode) (sym there) ∙ other) ∙ ap (λ k. refused k state) same
+
   module _ (mode : Mode) (size : Kind → ℕ) (made of : List ℕ) (waker : ℕ) where
     -- the call of a request at an object
     abbrev asked_at : ℕ → Object Tag → Outcome
     asked_at place object = unless_taken (standing made state) (turn_at place (ask (tag mode made) (size object.kind) waker) state) state
 
-    pub ask_refused : (refusal : Refusal) → object_of (table of) ≡ Err refusal → asking mode size (standing of state) made waker state ≡ refused refusal state
-    ask_refused refusal e = calling_refused of refusal (λ p. on_object mode p (asked_at p) state) e
-
-    pub ask_kind : (place : ℕ) (sem : ObjectState) → object_of (table of) ≡ Ok place → slice_get sems place ≡ Some sem → is_of sem.kind mode ≡ false
-        → asking mode size (standing of state) made waker state ≡ refused refusals.Kind state
-    ask_kind place sem objected at_sem other = calling_for_kind mode of place sem asked_at objected at_sem other
+    pub ask_refused : (refusal : Refusal) → ((place : ℕ) → object_of (table of) ≡ Ok place → (sem : ObjectState) × (slice_get sems place ≡ Some sem)) → offering mode sems (object_of (table of)) ≡ Err refusal
+        → asking mode size (standing of state) made waker state ≡ refused refusal state
+    ask_refused refusal within e = calling_for_refused mode of refusal asked_at within e
 
     pub ask_taken : (place : ℕ) (sem : ObjectState) (thing : Thing) → object_of (table of) ≡ Ok place → slice_get sems place ≡ Some sem → is_of sem.kind mode ≡ true → table made ≡ Some thing
         → asking mode size (standing of state) made waker state ≡ refused refusals.Taken state

@@ -23,9 +23,9 @@ use Rattle.band_play.specs.Names.{thing_at, Updated, is_object}
 use Rattle.band_play.specs.State.{State, Tag, standing}
 use Rattle.band_play.specs.Step.{Outcome, is_of, asking, polling, dropping, making}
 use Rattle.band_play.specs.Table.{Stands, IsKnown}
-use Rattle.band_play.specs.Moves.{AsksFirst, PollsThing, DropsThing, object_of, place_at, mode_of, size_for}
+use Rattle.band_play.specs.Moves.{AsksFirst, PollsThing, DropsThing, object_of, offering, place_at, mode_of, size_for}
 use Rattle.band_play.specs.Kept.{IsSound, Follows, Remains, Stays, OthersQuiet, wakes_left, wakes_of}
-use Rattle.band_play.proofs.Follow.{Matches, unchanged_table, refused_follows, ask_refused, ask_kind, ask_taken, ask_follows, poll_unknown, poll_follows, drop_unknown, drop_object, drop_request, drop_permit, others_quiet}
+use Rattle.band_play.proofs.Follow.{Matches, unchanged_table, refused_follows, ask_refused, ask_taken, ask_follows, poll_unknown, poll_follows, drop_unknown, drop_object, drop_request, drop_permit, others_quiet}
 use Rattle.band_play.proofs.Making.{make_taken, make_follows, fresh, unused, quiet_push}
 use Rattle.band_play.proofs.Sound.{quiet_all, sound_after, sound_still}
 
@@ -89,15 +89,11 @@ module _ (old : Table) (sound : IsSound old) (none : wakes_left old ≡ []) wher
     abbrev pub asks : State → Outcome
     asks state = asking (mode_of want) (size_for want) (standing of state) made waker state
 
-    pub ask_refuses : (refusal : Refusal) → object_of (at_old of) ≡ Err refusal → Follows asks old (replies.Refused refusal) old
-    ask_refuses refusal e state stands =
-        refused_follows stands.0 at_old sems state old.last _ refusal stands.1 none (ask_refused stands.0 at_old sems state stands.1 (mode_of want) (size_for want) made of waker refusal e)
-
-    pub ask_other_kind : (place : ℕ) (sem : ObjectState) → object_of (at_old of) ≡ Ok place → slice_get sems place ≡ Some sem → is_of sem.kind (mode_of want) ≡ false
-        → Follows asks old (replies.Refused refusals.Kind) old
-    ask_other_kind place sem object there other state stands =
-        refused_follows stands.0 at_old sems state old.last _ refusals.Kind stands.1 none
-        (ask_kind stands.0 at_old sems state stands.1 (mode_of want) (size_for want) made of waker place sem object there other)
+    pub ask_refuses : (refusal : Refusal) → ((place : ℕ) → object_of (at_old of) ≡ Ok place → place < length sems) → offering (mode_of want) sems (object_of (at_old of)) ≡ Err refusal
+        → Follows asks old (replies.Refused refusal) old
+    ask_refuses refusal within e state stands =
+        refused_follows stands.0 at_old sems state old.last _ refusal stands.1 none
+        (ask_refused stands.0 at_old sems state stands.1 (mode_of want) (size_for want) made of waker refusal (λ place is. some_there sems place (within place is)) e)
 
     pub ask_takes : (place : ℕ) (sem : ObjectState) → object_of (at_old of) ≡ Ok place → slice_get sems place ≡ Some sem → is_of sem.kind (mode_of want) ≡ true → IsSome (at_old made)
         → Follows asks old (replies.Refused refusals.Taken) old

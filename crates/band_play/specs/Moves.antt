@@ -1,5 +1,5 @@
 -- What a poll and a drop of a thing make of the semaphores.
-use Rattle.std.specs.Prelude.{◌≡◌, ℕ, true, ◌+◌, ◌-◌, ◌<◌, ◌≤◌, ◌==◌, if◌then◌else◌, List, length, Option, Some, None, Result, Ok, Err, slice_get, slice_set}
+use Rattle.std.specs.Prelude.{◌≡◌, ℕ, Bool, true, false, ◌+◌, ◌-◌, ◌<◌, ◌≤◌, ◌==◌, if◌then◌else◌, List, length, Option, Some, None, Result, Ok, Err, slice_get, slice_set}
 use Rattle.std.specs.Str.{bytes_eq}
 use Rattle.band_balance.specs.Line.{give_back, u64_max}
 use Rattle.band_base.specs.declared.poll.Poll.{Poll}
@@ -123,6 +123,15 @@ object_of None = Err Unknown
 object_of (Some (things.Object place)) = Ok place
 object_of (Some (things.Request place request)) = Err Kind
 object_of (Some (things.Holding holding)) = Err Kind
+
+-- the place of an object of which this is asked, or why there is none
+abbrev pub offers_at : Mode → Option ObjectState → Bool
+offers_at mode None = false
+offers_at mode (Some sem) = is_of sem.kind mode
+
+abbrev pub offering : Mode → List ObjectState → Result ℕ Refusal → Result ℕ Refusal
+offering mode sems (Err refusal) = Err refusal
+offering mode sems (Ok place) = if offers_at mode (slice_get sems place) then Ok place else Err Kind
 
 -- what a thing holds in a mode, or why it holds nothing
 abbrev pub held_as : Mode → Option Thing → Result HoldingState Refusal

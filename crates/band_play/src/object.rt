@@ -88,6 +88,24 @@ impl Object {
         Request { any }
     }
 
+    /// How many of its permits or shares this is.
+    fn size(&self, want: Want) -> u64
+        ensures { result ≡ size_for want self.now.kind }
+    {
+        match (&self.primitive, want) {
+            (_, Want::Permits(n)) => n,
+            (Primitive::ReaderWriter(lock), Want::Write) => lock.max_readers(),
+            _ => 1,
+        }
+    }
+
+    /// Whether it could be had without waiting.
+    pub(crate) fn would_serve(&self, want: Want) -> bool
+        ensures { result ≡ is_served (size_for want self.now.kind) self.now.line }
+    {
+        self.size(want) <= self.semaphore().available_permits()
+    }
+
     /// Takes what it offers without waiting.
     pub(crate) fn try_take(&mut self, want: Want) -> Option<Holding>
         requires { IsTrue (is_of self.old.kind (mode_of want)) }

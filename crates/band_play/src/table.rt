@@ -1,12 +1,12 @@
 //! What the player keeps: the names, and the objects by place.
-ghost use Rattle.std.specs.Prelude.{◌≡◌, ◌+◌, ◌≤◌, [], OnOk, IfOk, IsOk, OnErr, IfNone, IfSome, MatchOption, MatchResult, ◌∷◌, ◌<◌, length, None, Some, Ok, Err};
+ghost use Rattle.std.specs.Prelude.{◌≡◌, ℕ, ◌+◌, ◌≤◌, [], OnOk, IfOk, IsOk, OnErr, IfNone, IfSome, MatchOption, MatchResult, ◌∷◌, ◌<◌, length, None, Some, Ok, Err};
 ghost use Rattle.band_balance.specs.Object.{Permit, new_semaphore};
 ghost use Rattle.band_play.specs.Step.{making, asking, polling, dropping, trying, releasing, reducing, draining, showing, forgetting, splitting, merging};
 ghost use Rattle.band_play.specs.State.{standing};
 ghost use Rattle.band_play.specs.Names.{thing_at};
 ghost use Rattle.std.specs.BTreeMap.{IsUnchanged};
 ghost use Rattle.band_play.specs.declared.thing.Thing.{Thing as AnyThing};
-ghost use Rattle.band_play.specs.Moves.{AsksFirst, IsOffered, PollsName, IsFit, mode_of, size_for, object_of, held_as, SplitsOff, FallsShort, mergeable, CanGrow, Grows};
+ghost use Rattle.band_play.specs.Moves.{AsksFirst, IsOffered, PollsName, IsFit, mode_of, size_for, object_of, offering, held_as, SplitsOff, FallsShort, mergeable, CanGrow, Grows};
 ghost use Rattle.band_play.specs.Kept.{StandsFor, IsSound, Follows, Stays, Remains, wakes_left};
 
 use crate::holding::Holding;
@@ -36,6 +36,24 @@ fn object_at(names: &Names, name: &Name) -> Result<u64, Refusal>
         None => Err(Refusal::Unknown),
         Some(Thing::Object(place)) => Ok(*place),
         Some(_) => Err(Refusal::Kind),
+    }
+}
+
+/// The place of the object with this name, of which this can be asked.
+fn object_for(
+    names: &Names,
+    objects: &Vec<Object>,
+    name: &Name,
+    want: Want,
+) -> Result<u64, Refusal>
+    requires { (place : ℕ) → object_of (thing_at names.now name.now) ≡ Ok place → place < length objects.now.items }
+    ensures { result ≡ offering (mode_of want) objects.now.items (object_of (thing_at names.now name.now)) }
+{
+    let place = object_at(names, name)?;
+    if objects[place as usize].offers(want) {
+        Ok(place)
+    } else {
+        Err(Refusal::Kind)
     }
 }
 
@@ -197,13 +215,10 @@ impl Table {
         ensures err { OnErr result (Stays self.old self.new) }
         ensures sound { IsSound self.new }
     {
-        let place = match object_at(&self.names, of) {
+        let place = match object_for(&self.names, &self.objects, of, want) {
             Ok(place) => place,
             Err(refusal) => return Ok(Reply::Refused(refusal)),
         };
-        if !self.objects[place as usize].offers(want) {
-            return Ok(Reply::Refused(Refusal::Kind));
-        }
         if names::is_live(&self.names, made) {
             return Ok(Reply::Refused(Refusal::Taken));
         }
@@ -273,28 +288,22 @@ impl Table {
         ensures err { OnErr result (Stays self.old self.new) }
         ensures sound { IsSound self.new }
     {
-        let place = match object_at(&self.names, of) {
+        let place = match object_for(&self.names, &self.objects, of, want) {
             Ok(place) => place,
             Err(refusal) => return Ok(Reply::Refused(refusal)),
         };
-        if !self.objects[place as usize].offers(want) {
-            return Ok(Reply::Refused(Refusal::Kind));
-        }
         if names::is_live(&self.names, made) {
             return Ok(Reply::Refused(Refusal::Taken));
         }
-        names::reserve(&mut self.names, made)?;
-        match self.objects[place as usize].try_take(want) {
-            Some(holding) => {
-                names::set(&mut self.names, made, Thing::Holding(holding));
-                self.last = place;
-                Ok(Reply::Done)
-            }
-            None => {
-                names::forget(&mut self.names, made);
-                Ok(Reply::Nothing)
-            }
+        if !self.objects[place as usize].would_serve(want) {
+            return Ok(Reply::Nothing);
         }
+        names::reserve(&mut self.names, made)?;
+        let object = &mut self.objects[place as usize];
+        let holding = object.try_take(want).unwrap();
+        names::set(&mut self.names, made, Thing::Holding(holding));
+        self.last = place;
+        Ok(Reply::Done)
     }
 
     /// Adds permits to a semaphore.
@@ -304,15 +313,12 @@ impl Table {
         ensures follows { Follows (λ state. releasing (standing of.now state) n state) self.old result self.new }
         ensures sound { IsSound self.new }
     {
-        let place = match object_at(&self.names, of) {
+        let place = match object_for(&self.names, &self.objects, of, Want::Permits(n)) {
             Ok(place) => place,
             Err(refusal) => return Reply::Refused(refusal),
         };
-        let object = &mut self.objects[place as usize];
-        if !object.offers(Want::Permits(n)) {
-            return Reply::Refused(Refusal::Kind);
-        }
         self.last = place;
+        let object = &mut self.objects[place as usize];
         match object.release(n, steps) {
             Ok(()) => Reply::Done,
             Err(_) => Reply::Refused(Refusal::Overflow),
@@ -332,15 +338,12 @@ impl Table {
         ensures err { OnErr result (Stays self.old self.new) }
         ensures sound { IsSound self.new }
     {
-        let place = match object_at(&self.names, of) {
+        let place = match object_for(&self.names, &self.objects, of, Want::Permits(n)) {
             Ok(place) => place,
             Err(refusal) => return Ok(Reply::Refused(refusal)),
         };
-        let object = &mut self.objects[place as usize];
-        if !object.offers(Want::Permits(n)) {
-            return Ok(Reply::Refused(Refusal::Kind));
-        }
         self.last = place;
+        let object = &mut self.objects[place as usize];
         match object.reduce(n, steps) {
             Ok(()) => Ok(Reply::Done),
             Err(ReduceError::Debt) => Ok(Reply::Refused(Refusal::Debt)),
@@ -355,15 +358,12 @@ impl Table {
         ensures follows { Follows (λ state. draining (standing of.now state) n state) self.old result self.new }
         ensures sound { IsSound self.new }
     {
-        let place = match object_at(&self.names, of) {
+        let place = match object_for(&self.names, &self.objects, of, Want::Permits(n)) {
             Ok(place) => place,
             Err(refusal) => return Reply::Refused(refusal),
         };
-        let object = &mut self.objects[place as usize];
-        if !object.offers(Want::Permits(n)) {
-            return Reply::Refused(Refusal::Kind);
-        }
         self.last = place;
+        let object = &mut self.objects[place as usize];
         Reply::Drained(object.drain(n))
     }
 

@@ -1,18 +1,24 @@
 use Rattle.std.proofs.Common.{refl, sym, ◌∙◌}
-use Rattle.band_play.proofs.TableLemmas.{ask_refuses, ask_takes, ask_done, updated_twice, none_from, same_names, stays, sound_same, polls_quiet, on_err}
+use Rattle.band_play.proofs.TableLemmas.{ask_refuses, ask_takes, ask_done, updated_twice, none_from, some_there, same_names, stays, sound_same, polls_quiet, on_err}
 use Rattle.band_play.proofs.Sound.{object_in, numbered_in, sound_after}
-use Rattle.band_play.proofs.Follow.{same_table}
+use Rattle.band_play.proofs.Follow.{same_table, offered_at, offers_of}
+use Rattle.band_play.specs.Moves.{mode_of}
 use Rattle.band_play.proofs.table.Table.ask.Goals as goal
+
+pub object_for-requires : goal.object_for-requires
+object_for-requires g c = λ place is. object_in c.args.self.now c.args.of.now place c.requires.sound is
 
 pub returns-in-Err-clause-follows : goal.returns-in-Err-clause-follows
 returns-in-Err-clause-follows g c =
-    ask_refuses c.args.self.now c.requires.sound c.requires.quiet c.args.made.now c.args.of.now c.args.n c.args.waker.0 c.in-Err.refusal (sym c.object_at.ensures ∙ c.in-Err.is)
+    ask_refuses c.args.self.now c.requires.sound c.requires.quiet c.args.want c.args.made.now c.args.of.now c.args.waker.0 c.in-Err.refusal
+    (λ place is. object_in c.args.self.now c.args.of.now place c.requires.sound is) (sym c.object_for.ensures ∙ c.in-Err.is)
 
 pub returns-then-is_live-clause-follows : goal.returns-then-is_live-clause-follows
 returns-then-is_live-clause-follows g c =
-    let object = sym c.object_at.ensures ∙ c.in-Ok.is in
-    ask_takes c.args.self.now c.requires.sound c.requires.quiet c.args.made.now c.args.of.now c.args.n c.args.waker.0 c.in-Ok.place object
-    (object_in c.args.self.now c.args.of.now c.in-Ok.place c.requires.sound object) (c.is_live.ensures.0 c.if-is_live.true)
+    let offered = offered_at (mode_of c.args.want) c.args.self.now.objects.items _ c.in-Ok.place (sym c.object_for.ensures ∙ c.in-Ok.is) in
+    let sem = some_there c.args.self.now.objects.items c.in-Ok.place (object_in c.args.self.now c.args.of.now c.in-Ok.place c.requires.sound offered.0) in
+    ask_takes c.args.self.now c.requires.sound c.requires.quiet c.args.want c.args.made.now c.args.of.now c.args.waker.0 c.in-Ok.place sem.0 offered.0 sem.1
+    (offers_of (mode_of c.args.want) c.args.self.now.objects.items c.in-Ok.place sem.0 sem.1 offered.1) (c.is_live.ensures.0 c.if-is_live.true)
 
 pub returns-in_err-reserve-clause-err : goal.returns-in_err-reserve-clause-err
 returns-in_err-reserve-clause-err g c =
@@ -25,16 +31,23 @@ returns-in_err-reserve-clause-sound g c =
 
 pub first_poll-requires-clause-there : goal.first_poll-requires-clause-there
 first_poll-requires-clause-there g c =
-    object_in c.args.self.now c.args.of.now c.in-Ok.place c.requires.sound (sym c.object_at.ensures ∙ c.in-Ok.is)
+    object_in c.args.self.now c.args.of.now c.in-Ok.place c.requires.sound (offered_at (mode_of c.args.want) c.args.self.now.objects.items _ c.in-Ok.place (sym c.object_for.ensures ∙ c.in-Ok.is)).0
 
-pub first_poll-requires-clause-numbered : goal.first_poll-requires-clause-numbered
-first_poll-requires-clause-numbered g c = numbered_in c.args.self.now c.in-Ok.place c.requires.sound
+pub first_poll-requires-clause-offered : goal.first_poll-requires-clause-offered
+first_poll-requires-clause-offered g c =
+    let offered = offered_at (mode_of c.args.want) c.args.self.now.objects.items _ c.in-Ok.place (sym c.object_for.ensures ∙ c.in-Ok.is) in
+    λ sem there. (
+      numbered_in c.args.self.now c.in-Ok.place c.requires.sound sem there,
+      offers_of (mode_of c.args.want) c.args.self.now.objects.items c.in-Ok.place sem there offered.1,
+    )
 
 pub returns-in-Ok-first_poll-clause-follows : goal.returns-in-Ok-first_poll-clause-follows
 returns-in-Ok-first_poll-clause-follows g c =
+    let offered = offered_at (mode_of c.args.want) c.args.self.now.objects.items _ c.in-Ok.place (sym c.object_for.ensures ∙ c.in-Ok.is) in
+    let sem = some_there c.args.self.now.objects.items c.in-Ok.place (object_in c.args.self.now c.args.of.now c.in-Ok.place c.requires.sound offered.0) in
     ask_done c.args.self.now c.requires.sound c.requires.quiet (record { names = c.set.new.names; objects = c.first_poll.new.objects; last = c.in-Ok.place })
-    c.args.made.now c.args.of.now c.args.n c.args.waker.0 c.in-Ok.place c.in-Ok-first_poll.thing c.in-Ok-first_poll.reply
-    (sym c.object_at.ensures ∙ c.in-Ok.is)
+    c.args.want c.args.made.now c.args.of.now c.args.waker.0 c.in-Ok.place sem.0 c.in-Ok-first_poll.thing c.in-Ok-first_poll.reply
+    offered.0 sem.1 (offers_of (mode_of c.args.want) c.args.self.now.objects.items c.in-Ok.place sem.0 sem.1 offered.1)
     (none_from _ c.is_live.result c.is_live.ensures.1 c.if-is_live.false)
     (updated_twice _ _ _ c.args.made.now _ _ c.in_ok-reserve.ensures.ok c.set.ensures)
     c.in-Ok-first_poll.ensures.ok refl
@@ -42,7 +55,8 @@ returns-in-Ok-first_poll-clause-follows g c =
 pub returns-in-Ok-first_poll-clause-sound : goal.returns-in-Ok-first_poll-clause-sound
 returns-in-Ok-first_poll-clause-sound g c =
     sound_after _ c.args.self.now c.in-Ok-first_poll.reply _ c.requires.sound (returns-in-Ok-first_poll-clause-follows g c)
-    (polls_quiet c.args.self.now c.requires.sound c.requires.quiet (record { names = c.set.new.names; objects = c.first_poll.new.objects; last = c.in-Ok.place }) c.in-Ok.place _ c.args.waker.0 c.in-Ok-first_poll.thing c.in-Ok-first_poll.reply c.in-Ok-first_poll.ensures.ok refl)
+    (polls_quiet c.args.self.now c.requires.sound c.requires.quiet (record { names = c.set.new.names; objects = c.first_poll.new.objects; last = c.in-Ok.place })
+    c.args.want c.in-Ok.place c.args.waker.0 c.in-Ok-first_poll.thing c.in-Ok-first_poll.reply c.in-Ok-first_poll.ensures.ok refl)
 
 pub returns-in-Err-first_poll-clause-err : goal.returns-in-Err-first_poll-clause-err
 returns-in-Err-first_poll-clause-err g c =

@@ -7,8 +7,8 @@ use Rattle.band_play.proofs.table.Table.take_wake.Goals as goal
 
 pub returns-then-last-len-clause-state : goal.returns-then-last-len-clause-state
 returns-then-last-len-clause-state c = λ state stands.
-    let there = slice_get_read c.args.self.now.objects.items _ c.args.self.now.last c.index_mut-semaphore.result.now refl (omega arith) c.index_mut-semaphore.ensures.value in
-    (stands.0, stands_woken stands.0 _ c.args.self.now.objects.items state c.args.self.now.last c.index_mut-semaphore.result.now c.take_wake.new.self c.take_wake.result stands.1 there c.take_wake.ensures.woken)
+    let there = slice_get_read c.args.self.now.objects.items _ c.args.self.now.last c.index_mut.result.now refl (omega arith) c.index_mut.ensures.value in
+    (stands.0, stands_woken stands.0 _ c.args.self.now.objects.items state c.args.self.now.last c.index_mut.result.now c.take_wake.new.self c.take_wake.result stands.1 there c.take_wake.ensures.woken)
 
 pub returns-then-last-len-clause-sound : goal.returns-then-last-len-clause-sound
 returns-then-last-len-clause-sound c =

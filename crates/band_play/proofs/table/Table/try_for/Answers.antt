@@ -18,19 +18,44 @@ use Rattle.band_play.proofs.Sound.{object_in, numbered_in}
 use Rattle.band_play.proofs.TableLemmas.{some_of, some_there, none_from, updated_twice, same_names, stays, sound_same, on_err}
 use Rattle.band_play.proofs.table.Table.try_for.Goals as goal
 
+pub object_for-requires : goal.object_for-requires
+object_for-requires c = λ place is. object_in c.args.self.now c.args.of.now place c.requires.sound is
+
 pub returns-in-Err-clause-follows : goal.returns-in-Err-clause-follows
 returns-in-Err-clause-follows c =
-    refuses c.args.self.now c.requires.sound c.requires.quiet (λ state. trying (standing c.args.of.now state) c.args.made.now c.args.n state) c.in-Err.refusal c.args.self.now (λ n. refl) refl
-    (λ names state stands. calling_refused names _ _ state stands c.args.of.now c.in-Err.refusal _ (sym c.object_at.ensures ∙ c.in-Err.is))
+    refuses c.args.self.now c.requires.sound c.requires.quiet (λ state. trying (mode_of c.args.want) (size_for c.args.want) (standing c.args.of.now state) c.args.made.now state) c.in-Err.refusal c.args.self.now (λ n. refl) refl
+    (λ names state stands. calling_for_refused names _ _ state stands (mode_of c.args.want) c.args.of.now c.in-Err.refusal _
+    (λ place is. some_there c.args.self.now.objects.items place (object_in c.args.self.now c.args.of.now place c.requires.sound is)) (sym c.object_for.ensures ∙ c.in-Err.is))
 
 pub returns-then-is_live-clause-follows : goal.returns-then-is_live-clause-follows
 returns-then-is_live-clause-follows c =
-    let object = sym c.object_at.ensures ∙ c.in-Ok.is in
+    let offered = offered_at (mode_of c.args.want) c.args.self.now.objects.items _ c.in-Ok.place (sym c.object_for.ensures ∙ c.in-Ok.is) in
+    let object = offered.0 in
     let within = object_in c.args.self.now c.args.of.now c.in-Ok.place c.requires.sound object in
     let sem = some_there c.args.self.now.objects.items c.in-Ok.place within in
     let thing = some_of (thing_at c.args.self.now.names c.args.made.now) (c.is_live.ensures.0 c.if-is_live.true) in
-    refuses c.args.self.now c.requires.sound c.requires.quiet (λ state. trying (standing c.args.of.now state) c.args.made.now c.args.n state) refusals.Taken c.args.self.now (λ n. refl) refl
-    (λ names state stands. try_taken names _ _ state stands c.args.of.now c.in-Ok.place sem.0 object sem.1 (quiet_there c.args.self.now c.requires.sound c.requires.quiet c.in-Ok.place sem.0 sem.1) c.args.made.now c.args.n thing.0 thing.1)
+    refuses c.args.self.now c.requires.sound c.requires.quiet (λ state. trying (mode_of c.args.want) (size_for c.args.want) (standing c.args.of.now state) c.args.made.now state) refusals.Taken c.args.self.now (λ n. refl) refl
+    (λ names state stands. try_taken names _ _ state stands c.args.of.now c.in-Ok.place sem.0 object sem.1 (quiet_there c.args.self.now c.requires.sound c.requires.quiet c.in-Ok.place sem.0 sem.1)
+    (mode_of c.args.want) (size_for c.args.want) c.args.made.now (size_for c.args.want sem.0.kind) refl (offers_of (mode_of c.args.want) c.args.self.now.objects.items c.in-Ok.place sem.0 sem.1 offered.1) thing.0 thing.1)
+
+pub index-requires : goal.index-requires
+index-requires c =
+    let offered = offered_at (mode_of c.args.want) c.args.self.now.objects.items _ c.in-Ok.place (sym c.object_for.ensures ∙ c.in-Ok.is) in
+    let object = offered.0 in
+    let within = object_in c.args.self.now c.args.of.now c.in-Ok.place c.requires.sound object in
+    omega arith
+
+pub returns-then-not-would_serve-clause-follows : goal.returns-then-not-would_serve-clause-follows
+returns-then-not-would_serve-clause-follows c =
+    let offered = offered_at (mode_of c.args.want) c.args.self.now.objects.items _ c.in-Ok.place (sym c.object_for.ensures ∙ c.in-Ok.is) in
+    let object = offered.0 in
+    let within = object_in c.args.self.now c.args.of.now c.in-Ok.place c.requires.sound object in
+    let sem = c.index.result.now in
+    let there : slice_get c.args.self.now.objects.items c.in-Ok.place ≡ Some sem = slice_get_read c.args.self.now.objects.items _ c.in-Ok.place sem refl within c.index.ensures in
+    shows c.args.self.now c.requires.sound c.requires.quiet (λ state. trying (mode_of c.args.want) (size_for c.args.want) (standing c.args.of.now state) c.args.made.now state) replies.Nothing c.args.self.now c.in-Ok.place sem there (λ n. refl) refl
+    (λ names state stands. try_fails names _ _ state stands c.args.of.now c.in-Ok.place sem object there (quiet_there c.args.self.now c.requires.sound c.requires.quiet c.in-Ok.place sem there)
+    (mode_of c.args.want) (size_for c.args.want) c.args.made.now (size_for c.args.want sem.kind) refl (offers_of (mode_of c.args.want) c.args.self.now.objects.items c.in-Ok.place sem there offered.1)
+    (none_from _ c.is_live.result c.is_live.ensures.1 c.if-is_live.false) (sym c.would_serve.ensures ∙ c.if-not-would_serve.true))
 
 pub returns-in_err-reserve-clause-err : goal.returns-in_err-reserve-clause-err
 returns-in_err-reserve-clause-err c =
@@ -41,69 +66,55 @@ pub returns-in_err-reserve-clause-sound : goal.returns-in_err-reserve-clause-sou
 returns-in_err-reserve-clause-sound c =
     sound_same c.args.self.now _ c.requires.sound (same_names c.args.self.now.names c.reserve.new.names c.in_err-reserve.ensures.err) refl refl
 
-pub index_mut-semaphore-requires : goal.index_mut-semaphore-requires
-index_mut-semaphore-requires c =
-    let within = object_in c.args.self.now c.args.of.now c.in-Ok.place c.requires.sound (sym c.object_at.ensures ∙ c.in-Ok.is) in
+pub index_mut-object-requires : goal.index_mut-object-requires
+index_mut-object-requires c =
+    let offered = offered_at (mode_of c.args.want) c.args.self.now.objects.items _ c.in-Ok.place (sym c.object_for.ensures ∙ c.in-Ok.is) in
+    let object = offered.0 in
+    let within = object_in c.args.self.now c.args.of.now c.in-Ok.place c.requires.sound object in
     omega arith
 
-pub returns-in-Some-clause-follows : goal.returns-in-Some-clause-follows
-returns-in-Some-clause-follows c =
-    let sem = c.index_mut-semaphore.result.now in
-    let object = sym c.object_at.ensures ∙ c.in-Ok.is in
+pub returns-clause-follows : goal.returns-clause-follows
+returns-clause-follows c =
+    let offered = offered_at (mode_of c.args.want) c.args.self.now.objects.items _ c.in-Ok.place (sym c.object_for.ensures ∙ c.in-Ok.is) in
+    let object = offered.0 in
     let within = object_in c.args.self.now c.args.of.now c.in-Ok.place c.requires.sound object in
-    let there : slice_get c.args.self.now.objects.items c.in-Ok.place ≡ Some sem = slice_get_read c.args.self.now.objects.items _ c.in-Ok.place sem refl within c.index_mut-semaphore.ensures.value in
-    let after = c.in-Some.ensures.some in
+    let sem = c.index_mut-object.result.now in
+    let there : slice_get c.args.self.now.objects.items c.in-Ok.place ≡ Some sem = slice_get_read c.args.self.now.objects.items _ c.in-Ok.place sem refl within c.index_mut-object.ensures.value in
+    let offers = offers_of (mode_of c.args.want) c.args.self.now.objects.items c.in-Ok.place sem there offered.1 in
+    let n = size_for c.args.want sem.kind in
+    let taken = c.unwrap-holding.ensures in
     let number : sem.number ≡ c.in-Ok.place = numbered_in c.args.self.now c.in-Ok.place c.requires.sound sem there in
-    call_follows c.args.self.now c.requires.sound c.requires.quiet (λ state. trying (standing c.args.of.now state) c.args.made.now c.args.n state) replies.Done
-    (record { names = c.set.new.names; objects = with_item c.args.self.now.objects c.in-Ok.place c.try_acquire.new.self; last = c.in-Ok.place })
-    c.in-Ok.place (record sem { line = take_permits c.args.n sem.line; held = sem.held + c.args.n })
+    call_follows c.args.self.now c.requires.sound c.requires.quiet (λ state. trying (mode_of c.args.want) (size_for c.args.want) (standing c.args.of.now state) c.args.made.now state) replies.Done
+    (record { names = c.set.new.names; objects = with_item c.args.self.now.objects c.in-Ok.place c.try_take.new.self; last = c.in-Ok.place })
+    c.in-Ok.place (record sem { line = take_permits n sem.line; held = sem.held + n })
     (ap (slice_set c.args.self.now.objects.items c.in-Ok.place) after) refl
-    (λ names state stands. try_follows names _ _ state stands c.args.of.now c.in-Ok.place sem object there (quiet_there c.args.self.now c.requires.sound c.requires.quiet c.in-Ok.place sem there) (thing_at c.set.new.names) c.args.made.now c.args.n
-    (none_from _ c.is_live.result c.is_live.ensures.1 c.if-is_live.false) (c.in-Some.ensures.served.0 refl)
-    (subst (λ (p : _). Updated (thing_at c.args.self.now.names) (thing_at c.set.new.names) c.args.made.now (Some (things.Holding p)))
-    (c.in-Some.ensures.permit ∙ ap (λ (k : ℕ). record { of = k; count = c.args.n }) number)
+    (λ names state stands. try_follows names _ _ state stands c.args.of.now c.in-Ok.place sem object there (quiet_there c.args.self.now c.requires.sound c.requires.quiet c.in-Ok.place sem there)
+    (mode_of c.args.want) (size_for c.args.want) c.args.made.now n refl offers (thing_at c.set.new.names) (want_fits sem.kind c.args.want offers)
+    (none_from _ c.is_live.result c.is_live.ensures.1 c.if-is_live.false) served
+    (subst (λ (p : HoldingState). Updated (thing_at c.args.self.now.names) (thing_at c.set.new.names) c.args.made.now (Some (things.Holding p)))
+    (holding ∙ ap (λ (k : ℕ). record { mode = mode_of c.args.want; of = k; count = n }) number)
     (updated_twice _ _ _ c.args.made.now _ _ c.in_ok-reserve.ensures.ok c.set.ensures))
-    (subst (λ (s : ObjectState). IsSteady s) after c.try_acquire.ensures.lawful))
+    (subst (λ (s : ObjectState). IsSteady s) after c.try_take.ensures.steady))
 
-pub returns-in-Some-clause-sound : goal.returns-in-Some-clause-sound
-returns-in-Some-clause-sound c =
-    let sem = c.index_mut-semaphore.result.now in
-    let object = sym c.object_at.ensures ∙ c.in-Ok.is in
+pub returns-clause-sound : goal.returns-clause-sound
+returns-clause-sound c =
+    let offered = offered_at (mode_of c.args.want) c.args.self.now.objects.items _ c.in-Ok.place (sym c.object_for.ensures ∙ c.in-Ok.is) in
+    let object = offered.0 in
     let within = object_in c.args.self.now c.args.of.now c.in-Ok.place c.requires.sound object in
-    let there : slice_get c.args.self.now.objects.items c.in-Ok.place ≡ Some sem = slice_get_read c.args.self.now.objects.items _ c.in-Ok.place sem refl within c.index_mut-semaphore.ensures.value in
-    let after = c.in-Some.ensures.some in
+    let sem = c.index_mut-object.result.now in
+    let there : slice_get c.args.self.now.objects.items c.in-Ok.place ≡ Some sem = slice_get_read c.args.self.now.objects.items _ c.in-Ok.place sem refl within c.index_mut-object.ensures.value in
+    let offers = offers_of (mode_of c.args.want) c.args.self.now.objects.items c.in-Ok.place sem there offered.1 in
+    let n = size_for c.args.want sem.kind in
+    let taken = c.unwrap-holding.ensures in
     let number : sem.number ≡ c.in-Ok.place = numbered_in c.args.self.now c.in-Ok.place c.requires.sound sem there in
-    call_sound c.args.self.now c.requires.sound c.requires.quiet (λ state. trying (standing c.args.of.now state) c.args.made.now c.args.n state) replies.Done
-    (record { names = c.set.new.names; objects = with_item c.args.self.now.objects c.in-Ok.place c.try_acquire.new.self; last = c.in-Ok.place })
-    c.in-Ok.place (record sem { line = take_permits c.args.n sem.line; held = sem.held + c.args.n })
+    call_sound c.args.self.now c.requires.sound c.requires.quiet (λ state. trying (mode_of c.args.want) (size_for c.args.want) (standing c.args.of.now state) c.args.made.now state) replies.Done
+    (record { names = c.set.new.names; objects = with_item c.args.self.now.objects c.in-Ok.place c.try_take.new.self; last = c.in-Ok.place })
+    c.in-Ok.place (record sem { line = take_permits n sem.line; held = sem.held + n })
     (ap (slice_set c.args.self.now.objects.items c.in-Ok.place) after) refl
-    (λ names state stands. try_follows names _ _ state stands c.args.of.now c.in-Ok.place sem object there (quiet_there c.args.self.now c.requires.sound c.requires.quiet c.in-Ok.place sem there) (thing_at c.set.new.names) c.args.made.now c.args.n
-    (none_from _ c.is_live.result c.is_live.ensures.1 c.if-is_live.false) (c.in-Some.ensures.served.0 refl)
-    (subst (λ (p : _). Updated (thing_at c.args.self.now.names) (thing_at c.set.new.names) c.args.made.now (Some (things.Holding p)))
-    (c.in-Some.ensures.permit ∙ ap (λ (k : ℕ). record { of = k; count = c.args.n }) number)
+    (λ names state stands. try_follows names _ _ state stands c.args.of.now c.in-Ok.place sem object there (quiet_there c.args.self.now c.requires.sound c.requires.quiet c.in-Ok.place sem there)
+    (mode_of c.args.want) (size_for c.args.want) c.args.made.now n refl offers (thing_at c.set.new.names) (want_fits sem.kind c.args.want offers)
+    (none_from _ c.is_live.result c.is_live.ensures.1 c.if-is_live.false) served
+    (subst (λ (p : HoldingState). Updated (thing_at c.args.self.now.names) (thing_at c.set.new.names) c.args.made.now (Some (things.Holding p)))
+    (holding ∙ ap (λ (k : ℕ). record { mode = mode_of c.args.want; of = k; count = n }) number)
     (updated_twice _ _ _ c.args.made.now _ _ c.in_ok-reserve.ensures.ok c.set.ensures))
-    (subst (λ (s : ObjectState). IsSteady s) after c.try_acquire.ensures.lawful))
-
-pub returns-in-None-clause-follows : goal.returns-in-None-clause-follows
-returns-in-None-clause-follows c =
-    let sem = c.index_mut-semaphore.result.now in
-    let object = sym c.object_at.ensures ∙ c.in-Ok.is in
-    let within = object_in c.args.self.now c.args.of.now c.in-Ok.place c.requires.sound object in
-    let there : slice_get c.args.self.now.objects.items c.in-Ok.place ≡ Some sem = slice_get_read c.args.self.now.objects.items _ c.in-Ok.place sem refl within c.index_mut-semaphore.ensures.value in
-    shows c.args.self.now c.requires.sound c.requires.quiet (λ state. trying (standing c.args.of.now state) c.args.made.now c.args.n state) replies.Nothing
-    (record { names = c.forget.new.names; objects = with_item c.args.self.now.objects c.in-Ok.place c.try_acquire.new.self; last = c.args.self.now.last })
-    c.in-Ok.place sem there
-    (same_table _ _ c.args.made.now _ (updated_twice _ _ _ c.args.made.now _ _ c.in_ok-reserve.ensures.ok c.forget.ensures) (none_from _ c.is_live.result c.is_live.ensures.1 c.if-is_live.false))
-    (ap (slice_set c.args.self.now.objects.items c.in-Ok.place) c.in-None.ensures.none ∙ set_itself c.args.self.now.objects.items c.in-Ok.place sem there)
-    (λ names state stands. try_fails names _ _ state stands c.args.of.now c.in-Ok.place sem object there (quiet_there c.args.self.now c.requires.sound c.requires.quiet c.in-Ok.place sem there) c.args.made.now c.args.n (none_from _ c.is_live.result c.is_live.ensures.1 c.if-is_live.false)
-    (refuted (is_served c.args.n sem.line) (λ served. false≢true (c.in-None.ensures.served.1 served))))
-
-pub returns-in-None-clause-sound : goal.returns-in-None-clause-sound
-returns-in-None-clause-sound c =
-    let sem = c.index_mut-semaphore.result.now in
-    let object = sym c.object_at.ensures ∙ c.in-Ok.is in
-    let within = object_in c.args.self.now c.args.of.now c.in-Ok.place c.requires.sound object in
-    let there : slice_get c.args.self.now.objects.items c.in-Ok.place ≡ Some sem = slice_get_read c.args.self.now.objects.items _ c.in-Ok.place sem refl within c.index_mut-semaphore.ensures.value in
-    still_sound c.args.self.now c.requires.sound c.requires.quiet (record { names = c.forget.new.names; objects = with_item c.args.self.now.objects c.in-Ok.place c.try_acquire.new.self; last = c.args.self.now.last })
-    (same_table _ _ c.args.made.now _ (updated_twice _ _ _ c.args.made.now _ _ c.in_ok-reserve.ensures.ok c.forget.ensures) (none_from _ c.is_live.result c.is_live.ensures.1 c.if-is_live.false))
-    (ap (slice_set c.args.self.now.objects.items c.in-Ok.place) c.in-None.ensures.none ∙ set_itself c.args.self.now.objects.items c.in-Ok.place sem there)
+    (subst (λ (s : ObjectState). IsSteady s) after c.try_take.ensures.steady))
