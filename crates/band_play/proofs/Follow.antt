@@ -11,6 +11,7 @@ use Rattle.band_balance.specs.Object as object
 use Rattle.band_base.specs.declared.poll.Poll.{Poll}
 use Rattle.band_base.specs.declared.poll.Poll.TheVariants as polls
 use Rattle.band_base.specs.declared.poll.PollError.{PollError}
+use Rattle.band_base.specs.declared.poll.PollError.TheVariants as errors
 use Rattle.band_sem.specs.Semaphore.{SemaphoreState, is_slot, FirstPoll, LaterPoll, PollsAt}
 use Rattle.band_play.specs.Objects.{IsSteady, ObjectState, RequestState, HoldingState, Fits, of_kind, shares_of, in_mode, asked_of, held_in, permit_in}
 use Rattle.band_sem.specs.Request.{Request as Asked}
@@ -26,7 +27,7 @@ use Rattle.band_play.specs.Names.{Updated}
 use Rattle.band_play.specs.State.{State, Named, Tag, is_tag, tag, standing}
 use Rattle.band_play.specs.Step.{Outcome, reply_of, refused, after_turn, turn_of, turn_at, unless_taken, is_of, on_kind, with_object, on_object, calling, calling_for, asking, polling, dropping}
 use Rattle.band_play.specs.Table.{StandsUnder, Stands, IsKnown}
-use Rattle.band_play.specs.Moves.{PollsRequest, PollsThing, AsksFirst, Becomes, IsAnswered, GivesIn, permit_answer, object_of, offers_at, offering, kind_at, given_back, cancelled_at, place_at, mode_of, size_for}
+use Rattle.band_play.specs.Moves.{PollsAs, PollsRequest, PollsThing, AsksFirst, Becomes, IsAnswered, GivesIn, permit_answer, object_of, offers_at, offering, kind_at, given_back, cancelled_at, place_at, mode_of, size_for}
 use Rattle.band_play.specs.declared.object.Want.{Want}
 use Rattle.band_play.specs.declared.object.Want.TheVariants as wants
 use Rattle.band_play.specs.Kept.{wakes_of, OthersQuiet}
@@ -111,6 +112,31 @@ request_is_in request mode asked same is = ap₂ in_mode same is
 
 pub holding_is_in : (holding : HoldingState) (mode : Mode) (permit : Held) → holding.mode ≡ mode → permit_in holding ≡ permit → holding ≡ held_in mode permit
 holding_is_in holding mode permit same is = ap₂ held_in same is
+
+-- what a poll's answer is in the table
+pub ready_answered : (place : ℕ) (result : Result (Poll HoldingState) PollError) (left : RequestState) (holding : HoldingState) → result ≡ Ok (polls.Ready holding) → IsAnswered place result left (things.Holding holding) replies.Ready
+ready_answered place (Ok (polls.Ready h)) left holding is = let same : h ≡ holding = cc in (ap things.Holding (sym same), refl)
+ready_answered place (Ok polls.Pending) left holding is = cc
+ready_answered place (Err e) left holding is = cc
+
+pub pending_answered : (place : ℕ) (result : Result (Poll HoldingState) PollError) (left : RequestState) → result ≡ Ok polls.Pending → IsAnswered place result left (things.Request place left) replies.Pending
+pending_answered place (Ok (polls.Ready h)) left is = cc
+pending_answered place (Ok polls.Pending) left is = (refl, refl)
+pending_answered place (Err e) left is = cc
+
+-- a first poll that fails changes nothing
+pub unmoved : (request : RequestState) (waker : ℕ) (old : ObjectState) (result : Result (Poll HoldingState) PollError) (left : RequestState) (new : ObjectState) (error : PollError)
+    → request.stage ≡ NotPolled → result ≡ Err error → PollsAs request waker old result left new → new ≡ old
+unmoved request waker old (Ok answer) left new error stage is polled = cc
+unmoved request waker old (Err e) left new error stage is polled =
+    object_is new old.kind (shares_of old) polled.kind (same e (subst (λ s. PollsAt s (asked_of request) waker (shares_of old) (Err e) (asked_of left) (shares_of new)) stage polled.polled))
+  where
+    same : (e : PollError) → FirstPoll (asked_of request) waker (shares_of old) (Err e) (asked_of left) (shares_of new) → shares_of new ≡ shares_of old
+    same errors.NoMemory (waits, new_is, left_is) = new_is
+    same errors.Finished polled = absurd polled
+    same errors.CountFull polled = absurd polled
+    same errors.Unknown polled = absurd polled
+    same errors.Driven polled = absurd polled
 
 called_with : (o : Option Thing) (refusal : Refusal) (call : ℕ → Outcome) (state : State) → object_of o ≡ Err refusal → calling (standing_of o) call state ≡ refused refusal state
 called_with None refusal call state e = let same : refusals.Unknown ≡ refusal = cc in ap (λ r. refused r state) same

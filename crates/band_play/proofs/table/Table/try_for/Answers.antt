@@ -1,19 +1,20 @@
-use Rattle.std.proofs.Common.{◌≡◌, Some, refl, sym, ap, ◌∙◌, ◌+◌, subst, arith, ℕ}
+use Rattle.std.proofs.Common.{◌≡◌, Option, Some, true, OnSome, IfSome, IsSome, refl, sym, ap, ◌∙◌, ◌+◌, subst, arith, ℕ}
 use Rattle.std.specs.List.{slice_get, slice_set}
 use Rattle.std.specs.Vec.{with_item}
-use Rattle.std.proofs.lemmas.Option.{slice_get_read}
+use Rattle.std.proofs.lemmas.Option.{slice_get_read, same_Some}
 use Rattle.std.proofs.lemmas.Bool.{false≢true}
 use Rattle.band_balance.specs.Line.{take_permits, is_served}
-use Rattle.band_play.specs.Objects.{IsSteady, ObjectState}
+use Rattle.band_play.specs.Objects.{IsSteady, ObjectState, HoldingState}
 use Rattle.band_sem.specs.declared.refusal.Refusal.TheVariants as refusals
 use Rattle.band_play.specs.declared.reply.Reply.TheVariants as replies
 use Rattle.band_play.specs.declared.thing.Thing.TheVariants as things
 use Rattle.band_play.specs.Names.{Updated, thing_at}
 use Rattle.band_play.specs.State.{standing}
 use Rattle.band_play.specs.Step.{trying}
+use Rattle.band_play.specs.Moves.{mode_of, size_for}
 use Rattle.band_play.proofs.Called.{refuses, shows, still_sound, call_follows, call_sound, quiet_there, refuted, set_itself}
-use Rattle.band_play.proofs.Calling.{calling_refused, try_taken, try_follows, try_fails}
-use Rattle.band_play.proofs.Follow.{same_table}
+use Rattle.band_play.proofs.Calling.{try_taken, try_follows, try_fails}
+use Rattle.band_play.proofs.Follow.{same_table, calling_for_refused, offered_at, offers_of, want_fits}
 use Rattle.band_play.proofs.Sound.{object_in, numbered_in}
 use Rattle.band_play.proofs.TableLemmas.{some_of, some_there, none_from, updated_twice, same_names, stays, sound_same, on_err}
 use Rattle.band_play.proofs.table.Table.try_for.Goals as goal
@@ -73,6 +74,17 @@ index_mut-object-requires c =
     let within = object_in c.args.self.now c.args.of.now c.in-Ok.place c.requires.sound object in
     omega arith
 
+pub unwrap-holding-requires : goal.unwrap-holding-requires
+unwrap-holding-requires c =
+    let offered = offered_at (mode_of c.args.want) c.args.self.now.objects.items _ c.in-Ok.place (sym c.object_for.ensures ∙ c.in-Ok.is) in
+    let within = object_in c.args.self.now c.args.of.now c.in-Ok.place c.requires.sound offered.0 in
+    let sem = c.index_mut-object.result.now in
+    let seen = c.index.result.now in
+    let there : slice_get c.args.self.now.objects.items c.in-Ok.place ≡ Some sem = slice_get_read c.args.self.now.objects.items _ c.in-Ok.place sem refl within c.index_mut-object.ensures.value in
+    let before : slice_get c.args.self.now.objects.items c.in-Ok.place ≡ Some seen = slice_get_read c.args.self.now.objects.items _ c.in-Ok.place seen refl within c.index.ensures in
+    let same : seen ≡ sem = same_Some seen sem (sym before ∙ there) in
+    c.try_take.ensures.served.1 (ap (λ (o : ObjectState). is_served (size_for c.args.want o.kind) o.line) (sym same) ∙ sym c.would_serve.ensures ∙ c.if-not-would_serve.false)
+
 pub returns-clause-follows : goal.returns-clause-follows
 returns-clause-follows c =
     let offered = offered_at (mode_of c.args.want) c.args.self.now.objects.items _ c.in-Ok.place (sym c.object_for.ensures ∙ c.in-Ok.is) in
@@ -82,7 +94,12 @@ returns-clause-follows c =
     let there : slice_get c.args.self.now.objects.items c.in-Ok.place ≡ Some sem = slice_get_read c.args.self.now.objects.items _ c.in-Ok.place sem refl within c.index_mut-object.ensures.value in
     let offers = offers_of (mode_of c.args.want) c.args.self.now.objects.items c.in-Ok.place sem there offered.1 in
     let n = size_for c.args.want sem.kind in
-    let taken = c.unwrap-holding.ensures in
+    let taken : c.try_take.result ≡ Some c.unwrap-holding.result = c.unwrap-holding.ensures in
+    let after : c.try_take.new.self ≡ record sem { line = take_permits n sem.line; held = sem.held + n } =
+    subst (λ (r : Option HoldingState). OnSome r (c.try_take.new.self ≡ record sem { line = take_permits n sem.line; held = sem.held + n })) taken c.try_take.ensures.some in
+    let holding : c.unwrap-holding.result ≡ record { mode = mode_of c.args.want; of = sem.number; count = n } =
+    subst (λ (r : Option HoldingState). IfSome r (λ h. h ≡ record { mode = mode_of c.args.want; of = sem.number; count = n })) taken c.try_take.ensures.holding in
+    let served : is_served n sem.line ≡ true = c.try_take.ensures.served.0 (subst (λ (r : Option HoldingState). IsSome r) (sym taken) refl) in
     let number : sem.number ≡ c.in-Ok.place = numbered_in c.args.self.now c.in-Ok.place c.requires.sound sem there in
     call_follows c.args.self.now c.requires.sound c.requires.quiet (λ state. trying (mode_of c.args.want) (size_for c.args.want) (standing c.args.of.now state) c.args.made.now state) replies.Done
     (record { names = c.set.new.names; objects = with_item c.args.self.now.objects c.in-Ok.place c.try_take.new.self; last = c.in-Ok.place })
@@ -105,7 +122,12 @@ returns-clause-sound c =
     let there : slice_get c.args.self.now.objects.items c.in-Ok.place ≡ Some sem = slice_get_read c.args.self.now.objects.items _ c.in-Ok.place sem refl within c.index_mut-object.ensures.value in
     let offers = offers_of (mode_of c.args.want) c.args.self.now.objects.items c.in-Ok.place sem there offered.1 in
     let n = size_for c.args.want sem.kind in
-    let taken = c.unwrap-holding.ensures in
+    let taken : c.try_take.result ≡ Some c.unwrap-holding.result = c.unwrap-holding.ensures in
+    let after : c.try_take.new.self ≡ record sem { line = take_permits n sem.line; held = sem.held + n } =
+    subst (λ (r : Option HoldingState). OnSome r (c.try_take.new.self ≡ record sem { line = take_permits n sem.line; held = sem.held + n })) taken c.try_take.ensures.some in
+    let holding : c.unwrap-holding.result ≡ record { mode = mode_of c.args.want; of = sem.number; count = n } =
+    subst (λ (r : Option HoldingState). IfSome r (λ h. h ≡ record { mode = mode_of c.args.want; of = sem.number; count = n })) taken c.try_take.ensures.holding in
+    let served : is_served n sem.line ≡ true = c.try_take.ensures.served.0 (subst (λ (r : Option HoldingState). IsSome r) (sym taken) refl) in
     let number : sem.number ≡ c.in-Ok.place = numbered_in c.args.self.now c.in-Ok.place c.requires.sound sem there in
     call_sound c.args.self.now c.requires.sound c.requires.quiet (λ state. trying (mode_of c.args.want) (size_for c.args.want) (standing c.args.of.now state) c.args.made.now state) replies.Done
     (record { names = c.set.new.names; objects = with_item c.args.self.now.objects c.in-Ok.place c.try_take.new.self; last = c.in-Ok.place })
