@@ -8,7 +8,3 @@ ghost use Rattle.band_play.specs.Conservation.{permits_of, object_named, state_a
 pub fn permits_are_kept()
     ensures { (calls : List TheCall) (name : List ℕ) → permits_of (object_named name (state_after calls)) +ℤ pos (removed_in name calls) ≡ pos (brought_in name calls) }
 {}
-
-pub fn probe()
-    ensures { pos 0 ≡ pos 0 }
-{}
