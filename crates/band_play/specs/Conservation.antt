@@ -9,14 +9,14 @@ use Rattle.band_play.specs.declared.call.Call.TheVariants as calls
 use Rattle.band_play.specs.declared.reply.Reply.{Reply}
 use Rattle.band_play.specs.declared.reply.Reply.TheVariants as replies
 use Rattle.band_play.specs.State.{State, Named, Tag, Standing, AHolding, standing, is_tag}
-use Rattle.band_play.specs.Step.{step}
+use Rattle.band_play.specs.Step.{most_readers, step}
 
 -- the object with this name
 abbrev pub object_named : List ℕ → State → Option (Object Tag)
 object_named name [] = None
 object_named name (first ∷ rest) = if bytes_eq name first.name then Some first.object else object_named name rest
 
--- the permits of an object: those that are free, less what is owed, those granted and those held
+-- the permits or shares of an object: those that are free, less what is owed, those granted and those held
 abbrev pub permits_of : Option (Object Tag) → ℤ
 permits_of None = pos 0
 permits_of (Some object) = object.line.free +ℤ pos (total object.line.granted + total object.held)
@@ -47,6 +47,8 @@ held_of name permit standing state = 0
 -- what a call brings to the object with this name: what it is made with, or what is released
 abbrev pub brought : List ℕ → Call → Reply → ℕ
 brought name (calls.Sem made n) reply = if bytes_eq name made then when_done reply n else 0
+brought name (calls.Mutex made) reply = if bytes_eq name made then when_done reply 1 else 0
+brought name (calls.Rw made n) reply = if bytes_eq name made then when_done reply (most_readers n) else 0
 brought name (calls.Release of n) reply = if bytes_eq name of then when_done reply n else 0
 brought name call reply = 0
 

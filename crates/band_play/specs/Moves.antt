@@ -1,7 +1,7 @@
 -- What a poll and a drop of a thing make of the semaphores.
-use Rattle.std.specs.Prelude.{◌≡◌, ℕ, Bool, true, false, ◌+◌, ◌-◌, ◌<◌, ◌≤◌, ◌==◌, if◌then◌else◌, List, length, Option, Some, None, Result, Ok, Err, slice_get, slice_set}
+use Rattle.std.specs.Prelude.{◌≡◌, ℕ, Bool, true, false, [], ◌+◌, ◌-◌, ◌<◌, ◌≤◌, ◌==◌, if◌then◌else◌, List, length, Option, Some, None, Result, Ok, Err, slice_get, slice_set}
 use Rattle.std.specs.Str.{bytes_eq}
-use Rattle.band_balance.specs.Line.{give_back, u64_max}
+use Rattle.band_balance.specs.Line.{open_line, give_back, u64_max}
 use Rattle.band_base.specs.declared.poll.Poll.{Poll}
 use Rattle.band_base.specs.declared.poll.Poll.TheVariants as polls
 use Rattle.band_base.specs.declared.poll.PollError.{PollError}
@@ -15,6 +15,9 @@ use Rattle.band_balance.specs.Object.{Mode, Permit, Lock, Read, Write, size_of}
 use Rattle.band_balance.specs.Object as object
 use Rattle.band_play.specs.Objects.{ObjectState, RequestState, HoldingState, of_kind, shares_of, asked_of, permit_in, IsSteady, Fits}
 use Rattle.band_play.specs.Step.{is_of, same_mode}
+use Rattle.band_play.specs.State.{Tag}
+use Rattle.band_play.specs.declared.object.New.{New}
+use Rattle.band_play.specs.declared.object.New.TheVariants as news
 use Rattle.band_play.specs.declared.object.Want.{Want}
 use Rattle.band_play.specs.declared.object.Want.TheVariants as wants
 use Rattle.band_play.specs.declared.reply.Reply.{Reply}
@@ -219,3 +222,35 @@ pub record AsksFirst (place : ℕ) (want : Want) (waker : ℕ) (old : List Objec
   pub kind : object.Kind
   pub there : kind_at (slice_get old place) ≡ Some kind
   pub polls : PollsRequest place (record { mode = mode_of want; of = place; size = size_for want kind; stage = stages.NotPolled }) waker old thing reply new
+
+-- what a call makes
+abbrev pub kind_made : New → object.Kind
+kind_made (news.Semaphore n) = object.Semaphore
+kind_made news.Mutex = object.Mutex
+kind_made (news.ReaderWriter max) = object.ReaderWriter max
+
+abbrev pub count_made : New → ℕ
+count_made (news.Semaphore n) = n
+count_made news.Mutex = 1
+count_made (news.ReaderWriter max) = max
+
+abbrev pub object_made : New → object.Object Tag
+object_made new = record { kind = kind_made new; line = open_line (count_made new); held = [] }
+
+-- a lock is made for one reader at least
+abbrev pub IsForReaders : New → Type 0
+IsForReaders (news.Semaphore n) = Unit {0}
+IsForReaders news.Mutex = Unit {0}
+IsForReaders (news.ReaderWriter max) = 0 < max
+
+-- all but one of so many go back
+abbrev pub downgraded : ℕ → ObjectState → ObjectState
+downgraded count sem = record sem { line = give_back (count - 1) sem.line; held = sem.held - (count - 1) }
+
+-- what a name holds for writing it holds for reading from now on
+pub record Downgrades (name : List ℕ) (table table' : List ℕ → Option Thing) (old new : List ObjectState) (place : ℕ) : Type 0 where
+  pub writer : HoldingState
+  pub was : held_as Write (table name) ≡ Ok writer
+  pub at : place ≡ writer.of
+  pub becomes : Becomes writer.of old new (downgraded writer.count)
+  pub updated : Updated table table' name (Some (things.Holding (record { mode = Read; of = writer.of; count = 1 })))

@@ -1,7 +1,7 @@
 -- What contracts say of a player.
-use Rattle.std.specs.Prelude.{◌≡◌, ℕ, List}
+use Rattle.std.specs.Prelude.{◌≡◌, ℕ, ◌<◌, List, Some}
 use Rattle.band_play.specs.declared.call.Call.{Call}
-use Rattle.band_play.specs.declared.call.Call.TheVariants.{Sem, Ask, Poll, Drop, Try, Release, Reduce, Drain, Forget, Split, Merge, Status}
+use Rattle.band_play.specs.declared.call.Call.TheVariants.{Sem, Mutex, Rw, Ask, Lock, Read, Write, Poll, Drop, Try, TryLock, TryRead, TryWrite, Release, Reduce, Drain, Forget, Split, Merge, Downgrade, Status}
 use Rattle.band_play.specs.declared.player.Player.{Player}
 use Rattle.band_play.specs.declared.reply.Reply.{Reply}
 use Rattle.band_play.specs.State.{State}
@@ -29,14 +29,28 @@ Stays old new = (state : State) → StandsFor old state → StandsFor new state
 -- the calls that take no memory
 abbrev pub TakesNoMemory : Call → Type 0
 TakesNoMemory (Sem made n) = ⊥
+TakesNoMemory (Mutex made) = ⊥
+TakesNoMemory (Rw made n) = ⊥
 TakesNoMemory (Ask made of n waker) = ⊥
+TakesNoMemory (Lock made of waker) = ⊥
+TakesNoMemory (Read made of waker) = ⊥
+TakesNoMemory (Write made of waker) = ⊥
 TakesNoMemory (Poll name waker) = Unit {0}
 TakesNoMemory (Drop name) = Unit {0}
 TakesNoMemory (Try made of n) = ⊥
+TakesNoMemory (TryLock made of) = ⊥
+TakesNoMemory (TryRead made of) = ⊥
+TakesNoMemory (TryWrite made of) = ⊥
 TakesNoMemory (Release of n) = Unit {0}
 TakesNoMemory (Reduce of n) = ⊥
 TakesNoMemory (Drain of n) = Unit {0}
 TakesNoMemory (Forget name) = Unit {0}
 TakesNoMemory (Split name made n) = ⊥
 TakesNoMemory (Merge kept spent) = Unit {0}
+TakesNoMemory (Downgrade name) = Unit {0}
 TakesNoMemory (Status name) = Unit {0}
+
+-- a lock is made for one reader at least
+abbrev pub ForReaders : Call → Type 0
+ForReaders (Rw made (Some n)) = 0 < n
+ForReaders call = Unit {0}

@@ -1,10 +1,10 @@
 -- What a call makes of a state: the reply, the wakers to wake in order, and the state afterwards.
 use Rattle.std.specs.Str.{bytes_eq}
-use Rattle.std.specs.Prelude.{ℕ, Bool, true, false, ◌==◌, if◌then◌else◌, List, [], ◌∷◌, ◌++◌, Option, Some, None, slice_get, slice_set}
+use Rattle.std.specs.Prelude.{ℕ, ◌-◌, ◌^◌, Bool, true, false, ◌==◌, if◌then◌else◌, List, [], ◌∷◌, ◌++◌, Option, Some, None, slice_get, slice_set}
 use Rattle.band_sem.specs.declared.refusal.Refusal.{Refusal}
 use Rattle.band_sem.specs.declared.refusal.Refusal.TheVariants.{Unknown, Kind, Same, Taken, Finished, Other, Overflow, Debt}
 use Rattle.band_balance.specs.Line.{Entry, entry_named}
-use Rattle.band_balance.specs.Object.{Object, Mode, Permit, Lock, Read, Write, Turn, Answer, Semaphore, Mutex, ReaderWriter, new_semaphore, ask, poll, drop, try_for, release, reduce, drain, status, forget, split, merge, would_overflow, would_owe_too_much}
+use Rattle.band_balance.specs.Object.{Object, Mode, Permit, Lock, Read, Write, Turn, Answer, Semaphore, Mutex, ReaderWriter, size_of, new_semaphore, new_mutex, new_reader_writer, ask, poll, drop, try_for, release, reduce, drain, status, forget, split, merge, downgrade, would_overflow, would_owe_too_much}
 use Rattle.band_balance.specs.Object as object
 use Rattle.band_play.specs.declared.call.Call.{Call}
 use Rattle.band_play.specs.declared.call.Call.TheVariants as calls
@@ -155,6 +155,10 @@ splitting permit name made n state =
     on_held Permit permit name (λ place.
     unless_taken (standing made state) (turn_at place (split (is_tag name) (permit_tag made) n) state) state) state
 
+-- the right to write that a name holds becomes one to read
+abbrev pub downgrading : Standing → List ℕ → State → Outcome
+downgrading writer name state = on_held Write writer name (λ place. turn_at place (downgrade (is_tag name) (tag Read name)) state) state
+
 -- where a name is live
 abbrev pub unless_absent : Standing → Outcome → State → Outcome
 unless_absent Absent outcome state = refused Unknown state
@@ -173,16 +177,30 @@ merging first second kept spent state =
     unless_absent first (unless_absent second
     (on_held Permit first kept (λ place. on_held Permit second spent (λ other. merging_held place other kept spent state) state) state) state) state
 
+-- the most readers at a time, where a call doesn't say
+abbrev pub most_readers : Option ℕ → ℕ
+most_readers None = 2 ^ 63 - 1
+most_readers (Some n) = n
+
 abbrev pub step : Call → State → Outcome
 step (calls.Sem made n) state = making made (new_semaphore n) state
+step (calls.Mutex made) state = making made new_mutex state
+step (calls.Rw made n) state = making made (new_reader_writer (most_readers n)) state
 step (calls.Ask made of n waker) state = asking Permit (λ kind. n) (standing of state) made waker state
+step (calls.Lock made of waker) state = asking Lock (λ kind. size_of kind Lock) (standing of state) made waker state
+step (calls.Read made of waker) state = asking Read (λ kind. size_of kind Read) (standing of state) made waker state
+step (calls.Write made of waker) state = asking Write (λ kind. size_of kind Write) (standing of state) made waker state
 step (calls.Poll name waker) state = polling (standing name state) name waker state
 step (calls.Drop name) state = dropping (standing name state) name state
 step (calls.Try made of n) state = trying Permit (λ kind. n) (standing of state) made state
+step (calls.TryLock made of) state = trying Lock (λ kind. size_of kind Lock) (standing of state) made state
+step (calls.TryRead made of) state = trying Read (λ kind. size_of kind Read) (standing of state) made state
+step (calls.TryWrite made of) state = trying Write (λ kind. size_of kind Write) (standing of state) made state
 step (calls.Release of n) state = releasing (standing of state) n state
 step (calls.Reduce of n) state = reducing (standing of state) n state
 step (calls.Drain of n) state = draining (standing of state) n state
 step (calls.Forget name) state = forgetting (standing name state) name state
 step (calls.Split name made n) state = splitting (standing name state) name made n state
 step (calls.Merge kept spent) state = merging (standing kept state) (standing spent state) kept spent state
+step (calls.Downgrade name) state = downgrading (standing name state) name state
 step (calls.Status name) state = showing (standing name state) state

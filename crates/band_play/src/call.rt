@@ -10,11 +10,38 @@ pub enum Call {
         made: Name,
         n: u64,
     },
+    /// `mutex M`: makes a mutex.
+    Mutex {
+        made: Name,
+    },
+    /// `rw L`, `rw L N`: makes a reader-writer lock for at most `n` readers at a time, or for 2 to the 63rd less one.
+    Rw {
+        made: Name,
+        n: Option<u64>,
+    },
     /// `ask R S N W`: asks a semaphore for `n` permits, and polls once with a waker.
     Ask {
         made: Name,
         of: Name,
         n: u64,
+        waker: u64,
+    },
+    /// `lock R M W`: asks for a mutex, and polls once with a waker.
+    Lock {
+        made: Name,
+        of: Name,
+        waker: u64,
+    },
+    /// `read R L W`: asks to read, and polls once with a waker.
+    Read {
+        made: Name,
+        of: Name,
+        waker: u64,
+    },
+    /// `write R L W`: asks to write, and polls once with a waker.
+    Write {
+        made: Name,
+        of: Name,
         waker: u64,
     },
     /// `poll R W`: polls a request again.
@@ -31,6 +58,21 @@ pub enum Call {
         made: Name,
         of: Name,
         n: u64,
+    },
+    /// `trylock G M`: locks a mutex without waiting.
+    TryLock {
+        made: Name,
+        of: Name,
+    },
+    /// `tryread G L`: takes the right to read without waiting.
+    TryRead {
+        made: Name,
+        of: Name,
+    },
+    /// `trywrite G L`: takes the right to write without waiting.
+    TryWrite {
+        made: Name,
+        of: Name,
     },
     /// `release S N`: adds `n` permits to a semaphore.
     Release {
@@ -61,6 +103,10 @@ pub enum Call {
     Merge {
         kept: Name,
         spent: Name,
+    },
+    /// `downgrade G`: makes the right to write one to read.
+    Downgrade {
+        name: Name,
     },
     /// `status O`: the figures of an object.
     Status {

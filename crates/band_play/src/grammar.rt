@@ -2,10 +2,10 @@
 ghost use Rattle.std.specs.Prelude.{◌≡◌, ◌≤◌, List, ℕ, length, IfSome, IfNone};
 ghost use Rattle.band_play.specs.declared.call.Call.{Call as TheCall};
 ghost use Rattle.band_play.specs.Left.{words_left};
-ghost use Rattle.band_play.specs.Grammar.{IsLine, call_of, form_of, one_name_of, two_names_of, name_number_of, two_names_number_of, ask_of};
+ghost use Rattle.band_play.specs.Grammar.{IsLine, call_of, form_of, one_name_of, two_names_of, name_number_of, two_names_number_of, ask_of, rw_of, readers_of};
 
-use crate::Call;
 use crate::words::Words;
+use crate::{Call, Name};
 
 /// The call that a line stands for, if it stands for one.
 pub fn parse_line(line: &[u8]) -> Option<Call>
@@ -31,14 +31,30 @@ fn parse_form(form: &[u8], words: &mut Words) -> Option<Call>
 {
     if form == b"sem".as_slice() {
         parse_sem(words)
+    } else if form == b"mutex".as_slice() {
+        parse_mutex(words)
+    } else if form == b"rw".as_slice() {
+        parse_rw(words)
     } else if form == b"ask".as_slice() {
         parse_ask(words)
+    } else if form == b"lock".as_slice() {
+        parse_lock(words)
+    } else if form == b"read".as_slice() {
+        parse_read(words)
+    } else if form == b"write".as_slice() {
+        parse_write(words)
     } else if form == b"poll".as_slice() {
         parse_poll(words)
     } else if form == b"drop".as_slice() {
         parse_drop(words)
     } else if form == b"try".as_slice() {
         parse_try(words)
+    } else if form == b"trylock".as_slice() {
+        parse_trylock(words)
+    } else if form == b"tryread".as_slice() {
+        parse_tryread(words)
+    } else if form == b"trywrite".as_slice() {
+        parse_trywrite(words)
     } else if form == b"release".as_slice() {
         parse_release(words)
     } else if form == b"reduce".as_slice() {
@@ -51,6 +67,8 @@ fn parse_form(form: &[u8], words: &mut Words) -> Option<Call>
         parse_split(words)
     } else if form == b"merge".as_slice() {
         parse_merge(words)
+    } else if form == b"downgrade".as_slice() {
+        parse_downgrade(words)
     } else if form == b"status".as_slice() {
         parse_status(words)
     } else {
@@ -67,6 +85,36 @@ fn parse_sem(words: &mut Words) -> Option<Call>
     words.end_with(Call::Sem { made, n })
 }
 
+#[tactic(auto, unfolding(crate::specs::Grammar::one_name_of))]
+fn parse_mutex(words: &mut Words) -> Option<Call>
+    ensures { result ≡ one_name_of Call.Mutex (words_left words.old) }
+{
+    let made = words.name()?;
+    words.end_with(Call::Mutex { made })
+}
+
+#[tactic(auto, unfolding(crate::specs::Grammar::rw_of))]
+fn parse_rw(words: &mut Words) -> Option<Call>
+    ensures { result ≡ rw_of (words_left words.old) }
+{
+    let made = words.name()?;
+    parse_readers(made, words)
+}
+
+#[tactic(auto, unfolding(crate::specs::Grammar::readers_of))]
+fn parse_readers(made: Name, words: &mut Words) -> Option<Call>
+    ensures { result ≡ readers_of made (words_left words.old) }
+{
+    if words.is_empty() {
+        return Some(Call::Rw { made, n: None });
+    }
+    let n = words.number()?;
+    if n == 0 {
+        return None;
+    }
+    words.end_with(Call::Rw { made, n: Some(n) })
+}
+
 #[tactic(auto, unfolding(crate::specs::Grammar::ask_of))]
 fn parse_ask(words: &mut Words) -> Option<Call>
     ensures { result ≡ ask_of (words_left words.old) }
@@ -76,6 +124,36 @@ fn parse_ask(words: &mut Words) -> Option<Call>
     let n = words.number()?;
     let waker = words.number()?;
     words.end_with(Call::Ask { made, of, n, waker })
+}
+
+#[tactic(auto, unfolding(crate::specs::Grammar::two_names_number_of))]
+fn parse_lock(words: &mut Words) -> Option<Call>
+    ensures { result ≡ two_names_number_of Call.Lock (words_left words.old) }
+{
+    let made = words.name()?;
+    let of = words.name()?;
+    let waker = words.number()?;
+    words.end_with(Call::Lock { made, of, waker })
+}
+
+#[tactic(auto, unfolding(crate::specs::Grammar::two_names_number_of))]
+fn parse_read(words: &mut Words) -> Option<Call>
+    ensures { result ≡ two_names_number_of Call.Read (words_left words.old) }
+{
+    let made = words.name()?;
+    let of = words.name()?;
+    let waker = words.number()?;
+    words.end_with(Call::Read { made, of, waker })
+}
+
+#[tactic(auto, unfolding(crate::specs::Grammar::two_names_number_of))]
+fn parse_write(words: &mut Words) -> Option<Call>
+    ensures { result ≡ two_names_number_of Call.Write (words_left words.old) }
+{
+    let made = words.name()?;
+    let of = words.name()?;
+    let waker = words.number()?;
+    words.end_with(Call::Write { made, of, waker })
 }
 
 #[tactic(auto, unfolding(crate::specs::Grammar::name_number_of))]
@@ -103,6 +181,33 @@ fn parse_try(words: &mut Words) -> Option<Call>
     let of = words.name()?;
     let n = words.number()?;
     words.end_with(Call::Try { made, of, n })
+}
+
+#[tactic(auto, unfolding(crate::specs::Grammar::two_names_of))]
+fn parse_trylock(words: &mut Words) -> Option<Call>
+    ensures { result ≡ two_names_of Call.TryLock (words_left words.old) }
+{
+    let made = words.name()?;
+    let of = words.name()?;
+    words.end_with(Call::TryLock { made, of })
+}
+
+#[tactic(auto, unfolding(crate::specs::Grammar::two_names_of))]
+fn parse_tryread(words: &mut Words) -> Option<Call>
+    ensures { result ≡ two_names_of Call.TryRead (words_left words.old) }
+{
+    let made = words.name()?;
+    let of = words.name()?;
+    words.end_with(Call::TryRead { made, of })
+}
+
+#[tactic(auto, unfolding(crate::specs::Grammar::two_names_of))]
+fn parse_trywrite(words: &mut Words) -> Option<Call>
+    ensures { result ≡ two_names_of Call.TryWrite (words_left words.old) }
+{
+    let made = words.name()?;
+    let of = words.name()?;
+    words.end_with(Call::TryWrite { made, of })
 }
 
 #[tactic(auto, unfolding(crate::specs::Grammar::name_number_of))]
@@ -157,6 +262,14 @@ fn parse_merge(words: &mut Words) -> Option<Call>
     let kept = words.name()?;
     let spent = words.name()?;
     words.end_with(Call::Merge { kept, spent })
+}
+
+#[tactic(auto, unfolding(crate::specs::Grammar::one_name_of))]
+fn parse_downgrade(words: &mut Words) -> Option<Call>
+    ensures { result ≡ one_name_of Call.Downgrade (words_left words.old) }
+{
+    let name = words.name()?;
+    words.end_with(Call::Downgrade { name })
 }
 
 #[tactic(auto, unfolding(crate::specs::Grammar::one_name_of))]

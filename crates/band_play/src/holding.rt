@@ -44,8 +44,9 @@ fn add_permit(permit: &mut SemaphorePermit, more: SemaphorePermit)
 impl Holding {
     ghost use Rattle.std.specs.Prelude.{◌≡◌, ◌+◌, ◌-◌, ◌<◌, ◌≤◌, ◌↔◌, IsNone, IfSome, IfNone};
     ghost use Rattle.band_balance.specs.Line.{give_back};
-    ghost use Rattle.band_balance.specs.Object.{Permit};
+    ghost use Rattle.band_balance.specs.Object.{Permit, Read, Write};
     ghost use Rattle.band_play.specs.Objects.{IsSteady, Fits};
+    ghost use Rattle.band_play.specs.Moves.{downgraded};
     ghost use Rattle.band_play.specs.Step.{same_mode};
 
     /// Gives it back.
@@ -73,6 +74,13 @@ impl Holding {
         ensures { result ≡ same_mode Permit self.now.mode }
     {
         matches!(self.any, AnyHolding::Permit(_))
+    }
+
+    /// Whether it is the right to write.
+    pub(crate) fn is_writer(&self) -> bool
+        ensures { result ≡ same_mode Write self.now.mode }
+    {
+        matches!(self.any, AnyHolding::Write(_))
     }
 
     /// The number of its object.
@@ -103,6 +111,26 @@ impl Holding {
             }
             (any, _) => Holding { any }.lose(),
         }
+    }
+
+    /// Makes the right to write one to read.
+    pub(crate) fn downgrade_at<L: Ledger>(self, object: &mut Object, steps: &mut Steps<L>) -> Holding
+        requires mode { self.mode ≡ Write }
+        requires number { self.of ≡ object.old.number }
+        requires held { self.count ≤ object.old.held }
+        requires fits { Fits object.old.kind self.mode self.count }
+        ensures reader { result ≡ record { mode = Read; of = self.of; count = 1 } }
+        ensures state { object.new ≡ downgraded self.count object.old }
+        ensures steady { IsSteady object.new }
+    {
+        let Holding { any } = self;
+        let any = match (any, &mut object.primitive) {
+            (AnyHolding::Write(access), Primitive::ReaderWriter(lock)) => {
+                AnyHolding::Read(lock.downgrade(access, steps))
+            }
+            (any, _) => any,
+        };
+        Holding { any }
     }
 
     /// Takes `n` of a permit's into another one, if there are as many.

@@ -5,6 +5,7 @@ use crate::request::{AnyRequest, Request};
 use band_base::{Steps, Waker};
 use band_lock::{MutexState, RwLockState};
 use band_sem::{ReduceError, ReleaseError, Semaphore};
+use std::alloc::Global;
 use std::marker::Model;
 use std::sync::ledger::Ledger;
 
@@ -14,6 +15,14 @@ pub(crate) enum Primitive {
     Semaphore(Semaphore),
     Mutex(MutexState),
     ReaderWriter(RwLockState),
+}
+
+/// What a call makes.
+#[derive(Clone, Copy)]
+pub(crate) enum New {
+    Semaphore(u64),
+    Mutex,
+    ReaderWriter(u64),
 }
 
 /// What a call asks an object for.
@@ -41,12 +50,27 @@ impl Model for Object {
 
 impl Object {
     ghost use Rattle.std.specs.Prelude.{◌≡◌, ◌+◌, ◌<◌, ◌↔◌, [], ◌∷◌, IsTrue, IsSome, IfSome, OnSome, IfNone, IsErrOf, OnOk, OnErr, MatchOption};
-    ghost use Rattle.band_balance.specs.Line.{available, drained, overflows, owes_too_much, is_served, take_permits, give_back};
+    ghost use Rattle.band_balance.specs.Line.{open_line, drained, overflows, owes_too_much, is_served, take_permits, give_back};
     ghost use Rattle.band_balance.specs.Object.{Permit};
     ghost use Rattle.band_sem.specs.declared.acquire.Stage.{Stage};
     ghost use Rattle.band_play.specs.Objects.{shares_of, IsSteady};
-    ghost use Rattle.band_play.specs.Moves.{mode_of, size_for};
+    ghost use Rattle.band_play.specs.Moves.{mode_of, size_for, kind_made, count_made, IsForReaders};
     ghost use Rattle.band_play.specs.Step.{is_of};
+
+    /// A new object with this number.
+    pub(crate) fn new(alloc: Global, number: u64, new: New) -> Object
+        requires { IsForReaders new }
+        ensures start { result ≡ record { kind = kind_made new; number = number; line = open_line (count_made new); held = 0 } }
+    {
+        let primitive = match new {
+            New::Semaphore(n) => Primitive::Semaphore(Semaphore::new(alloc, number, n)),
+            New::Mutex => Primitive::Mutex(MutexState::new(alloc, number)),
+            New::ReaderWriter(max) => {
+                Primitive::ReaderWriter(RwLockState::with_max_readers(alloc, number, max))
+            }
+        };
+        Object { primitive }
+    }
 
     /// Its permits or shares.
     pub(crate) fn semaphore(&self) -> &Semaphore

@@ -2,12 +2,15 @@
 ghost use Rattle.std.proofs.Props.{props};
 ghost use Rattle.band_play.specs.Kept.{IsSound};
 
-use crate::object::Want;
+use crate::object::{New, Want};
 use crate::table::Table;
 use crate::{Call, Reply};
 use band_base::{Steps, Waker};
 use std::alloc::{AllocError, Global};
 use std::sync::ledger::Ledger;
+
+/// The most readers of a lock where its line names none.
+const MAX_READERS: u64 = u64::MAX >> 1;
 
 /// Named objects, and the requests and permits that scripts made of them. Dropping it loses the tokens inside.
 pub struct Player {
@@ -19,7 +22,7 @@ pub struct Player {
 impl Player {
     ghost use Rattle.std.specs.Prelude.{◌≡◌, [], ◌∷◌, IfOk, OnErr, IsOk, MatchOption};
     ghost use Rattle.band_play.specs.Step.{step};
-    ghost use Rattle.band_play.specs.Player.{StandsFor, Follows, Stays, TakesNoMemory, wakers_left};
+    ghost use Rattle.band_play.specs.Player.{StandsFor, Follows, Stays, TakesNoMemory, ForReaders, wakers_left};
 
     /// No name.
     pub fn new(alloc: Global) -> Player
@@ -39,23 +42,43 @@ impl Player {
         steps: &mut Steps<L>,
     ) -> Result<Reply, AllocError>
         // No waker of the step before is left.
-        requires { wakers_left self.old ≡ [] }
+        requires quiet { wakers_left self.old ≡ [] }
+        // A lock is made for one reader at least.
+        requires readers { ForReaders call.now }
         ensures follows { IfOk result (λ reply. Follows (step call.now) self.old reply self.new) }
         ensures err { OnErr result (Stays self.old self.new × (wakers_left self.new ≡ [])) }
         ensures succeeds { TakesNoMemory call.now → IsOk result }
     {
         match call {
-            Call::Sem { made, n } => self.table.make_semaphore(self.alloc, made, *n),
+            Call::Sem { made, n } => self.table.make(self.alloc, made, New::Semaphore(*n)),
+            Call::Mutex { made } => self.table.make(self.alloc, made, New::Mutex),
+            Call::Rw { made, n } => {
+                let max = n.unwrap_or(MAX_READERS);
+                self.table.make(self.alloc, made, New::ReaderWriter(max))
+            }
             Call::Ask { made, of, n, waker } => {
                 self.table
                     .ask(Want::Permits(*n), made, of, Waker(*waker), steps)
             }
+            Call::Lock { made, of, waker } => {
+                self.table.ask(Want::Lock, made, of, Waker(*waker), steps)
+            }
+            Call::Read { made, of, waker } => {
+                self.table.ask(Want::Read, made, of, Waker(*waker), steps)
+            }
+            Call::Write { made, of, waker } => {
+                self.table.ask(Want::Write, made, of, Waker(*waker), steps)
+            }
             Call::Poll { name, waker } => Ok(self.table.poll(name, Waker(*waker), steps)),
             Call::Drop { name } => Ok(self.table.drop_name(name, steps)),
             Call::Try { made, of, n } => self.table.try_for(Want::Permits(*n), made, of),
+            Call::TryLock { made, of } => self.table.try_for(Want::Lock, made, of),
+            Call::TryRead { made, of } => self.table.try_for(Want::Read, made, of),
+            Call::TryWrite { made, of } => self.table.try_for(Want::Write, made, of),
             Call::Release { of, n } => Ok(self.table.release(of, *n, steps)),
             Call::Reduce { of, n } => self.table.reduce(of, *n, steps),
             Call::Drain { of, n } => Ok(self.table.drain(of, *n)),
+            Call::Downgrade { name } => Ok(self.table.downgrade(name, steps)),
             Call::Status { name } => Ok(self.table.status(name)),
             Call::Forget { name } => Ok(self.table.forget(name)),
             Call::Split { name, made, n } => self.table.split(name, made, *n),

@@ -1,21 +1,21 @@
 //! What the player keeps: the names, and the objects by place.
 ghost use Rattle.std.specs.Prelude.{◌≡◌, ℕ, ◌+◌, ◌≤◌, [], OnOk, IfOk, IsOk, OnErr, IfNone, IfSome, MatchOption, MatchResult, ◌∷◌, ◌<◌, length, None, Some, Ok, Err};
-ghost use Rattle.band_balance.specs.Object.{Permit, new_semaphore};
-ghost use Rattle.band_play.specs.Step.{making, asking, polling, dropping, trying, releasing, reducing, draining, showing, forgetting, splitting, merging};
+ghost use Rattle.band_balance.specs.Object.{Permit, Write};
+ghost use Rattle.band_play.specs.Step.{making, asking, polling, dropping, trying, releasing, reducing, draining, showing, forgetting, splitting, merging, downgrading};
 ghost use Rattle.band_play.specs.State.{standing};
 ghost use Rattle.band_play.specs.Names.{thing_at};
 ghost use Rattle.std.specs.BTreeMap.{IsUnchanged};
 ghost use Rattle.band_play.specs.declared.thing.Thing.{Thing as AnyThing};
-ghost use Rattle.band_play.specs.Moves.{AsksFirst, IsOffered, PollsName, IsFit, mode_of, size_for, object_of, offering, held_as, SplitsOff, FallsShort, mergeable, CanGrow, Grows};
+ghost use Rattle.band_play.specs.Moves.{AsksFirst, IsOffered, PollsName, IsFit, mode_of, size_for, object_of, offering, held_as, SplitsOff, FallsShort, mergeable, CanGrow, Grows, Downgrades, IsForReaders, object_made};
 ghost use Rattle.band_play.specs.Kept.{StandsFor, IsSound, Follows, Stays, Remains, wakes_left};
 
 use crate::holding::Holding;
 use crate::names::{self, Names};
-use crate::object::{Object, Primitive, Want};
+use crate::object::{New, Object, Want};
 use crate::thing::Thing;
 use crate::{Name, Reply};
 use band_base::{Poll, Steps, Waker};
-use band_sem::{ReduceError, Refusal, Semaphore};
+use band_sem::{ReduceError, Refusal};
 use std::alloc::{AllocError, Global};
 use std::collections::BTreeMap;
 use std::mem;
@@ -67,6 +67,37 @@ fn permit_at<'a>(names: &'a Names, name: &Name) -> Result<&'a Holding, Refusal>
         None => Err(Refusal::Unknown),
         Some(thing) => thing.as_permit(),
     }
+}
+
+/// The right to write with this name.
+fn writer_at<'a>(names: &'a Names, name: &Name) -> Result<&'a Holding, Refusal>
+    ensures { MatchResult result
+        (λ writer. held_as Write (thing_at names.now name.now) ≡ Ok writer.now)
+        (λ refusal. held_as Write (thing_at names.now name.now) ≡ Err refusal) }
+{
+    match names.get(name) {
+        None => Err(Refusal::Unknown),
+        Some(thing) => thing.as_writer(),
+    }
+}
+
+/// Makes the right to write with this name one to read, and answers the place of its lock.
+fn downgrade_name<L: Ledger>(
+    names: &mut Names,
+    objects: &mut Vec<Object>,
+    name: &Name,
+    steps: &mut Steps<L>,
+) -> u64
+    requires writer { IsOk (held_as Write (thing_at names.old name.now)) }
+    requires fits { (thing : AnyThing) → thing_at names.old name.now ≡ Some thing → IsFit objects.old.items thing }
+    ensures { Downgrades name.now (thing_at names.old) (thing_at names.new) objects.old.items objects.new.items result }
+{
+    let slot = names.get_mut(name).unwrap();
+    let writer = mem::replace(slot, Thing::Object(0)).into_writer();
+    let place = writer.of();
+    let reader = writer.downgrade_at(&mut objects[place as usize], steps);
+    mem::replace(slot, Thing::Holding(reader)).lose();
+    place
 }
 
 /// Takes `n` permits out of the permit with this name, if it has as many.
@@ -175,16 +206,17 @@ impl Table {
         }
     }
 
-    /// Makes a semaphore of `n` permits.
-    pub(crate) fn make_semaphore(
+    /// Makes an object.
+    pub(crate) fn make(
         &mut self,
         alloc: Global,
         made: &Name,
-        n: u64,
+        new: New,
     ) -> Result<Reply, AllocError>
         requires sound { IsSound self.old }
         requires quiet { wakes_left self.old ≡ [] }
-        ensures follows { IfOk result (λ reply. Follows (making made.now (new_semaphore n)) self.old reply self.new) }
+        requires readers { IsForReaders new }
+        ensures follows { IfOk result (λ reply. Follows (making made.now (object_made new)) self.old reply self.new) }
         ensures err { OnErr result (Stays self.old self.new) }
         ensures sound { IsSound self.new }
     {
@@ -195,8 +227,7 @@ impl Table {
         self.objects.reserve(1)?;
         names::reserve(&mut self.names, made)?;
         names::set(&mut self.names, made, Thing::Object(place));
-        let primitive = Primitive::Semaphore(Semaphore::new(alloc, place, n));
-        self.objects.push(Object { primitive }).unwrap();
+        self.objects.push(Object::new(alloc, place, new)).unwrap();
         Ok(Reply::Done)
     }
 
@@ -446,6 +477,20 @@ impl Table {
         let more = names::remove(&mut self.names, spent).unwrap().into_permit();
         grow(&mut self.names, kept, more);
         self.last = place;
+        Reply::Done
+    }
+
+    /// Makes the right to write that a name is one to read.
+    pub(crate) fn downgrade<L: Ledger>(&mut self, name: &Name, steps: &mut Steps<L>) -> Reply
+        requires sound { IsSound self.old }
+        requires quiet { wakes_left self.old ≡ [] }
+        ensures follows { Follows (λ state. downgrading (standing name.now state) name.now state) self.old result self.new }
+        ensures sound { IsSound self.new }
+    {
+        if let Err(refusal) = writer_at(&self.names, name) {
+            return Reply::Refused(refusal);
+        }
+        self.last = downgrade_name(&mut self.names, &mut self.objects, name, steps);
         Reply::Done
     }
 

@@ -1,6 +1,6 @@
 //! What a name stands for in the player's table.
 ghost use Rattle.std.specs.Prelude.{◌≡◌, IsOk, Some, Ok, MatchResult, Err};
-ghost use Rattle.band_balance.specs.Object.{Permit};
+ghost use Rattle.band_balance.specs.Object.{Permit, Write};
 ghost use Rattle.band_play.specs.Moves.{IsFit, PollsThing, DropsThing, place_at, held_as};
 
 use crate::Reply;
@@ -95,6 +95,29 @@ impl Thing {
     pub(crate) fn into_permit(self) -> Holding
         requires { IsOk (held_as Permit (Some self)) }
         ensures { held_as Permit (Some self) ≡ Ok result }
+    {
+        match self {
+            Thing::Holding(holding) => holding,
+            _ => unreachable!(),
+        }
+    }
+
+    /// The right to write that this is.
+    pub(crate) fn as_writer(&self) -> Result<&Holding, Refusal>
+        ensures { MatchResult result
+            (λ holding. held_as Write (Some self.now) ≡ Ok holding.now)
+            (λ refusal. held_as Write (Some self.now) ≡ Err refusal) }
+    {
+        match self {
+            Thing::Holding(holding) if holding.is_writer() => Ok(holding),
+            _ => Err(Refusal::Kind),
+        }
+    }
+
+    /// The right to write that this is.
+    pub(crate) fn into_writer(self) -> Holding
+        requires { IsOk (held_as Write (Some self)) }
+        ensures { held_as Write (Some self) ≡ Ok result }
     {
         match self {
             Thing::Holding(holding) => holding,

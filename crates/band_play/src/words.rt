@@ -1,5 +1,5 @@
 //! A reader of the words of a line.
-ghost use Rattle.std.specs.Prelude.{◌≡◌, ◌==◌, List, [], ◌∷◌, ℕ, position};
+ghost use Rattle.std.specs.Prelude.{◌≡◌, ◌==◌, ◌↔◌, IsTrue, List, [], ◌∷◌, ℕ, position};
 ghost use Rattle.std.specs.Option.{option_map};
 ghost use Rattle.band_play.specs.Words.{words_of, word_at, name_at, number_at, end_with};
 ghost use Rattle.band_play.specs.Left.{words_in, words_left};
@@ -46,6 +46,13 @@ impl<'a> Words<'a> {
     {
         let word = self.word()?;
         number_from_word(word)
+    }
+
+    /// Whether no word is left.
+    pub(crate) fn is_empty(&self) -> bool
+        ensures { IsTrue result ↔ (words_left self.now ≡ []) }
+    {
+        self.rest.is_none()
     }
 
     /// The call that was read, if no word is left.
