@@ -1,5 +1,5 @@
 -- The decoder against the grammar.
-use Rattle.std.proofs.Common.{◌≡◌, ℕ, ◌^◌, ◌<◌, ◌≤◌, Bool, true, false, cond, List, [], ◌∷◌, length, Option, Some, None, IfSome, IfNone, refl, sym, ap, ◌∙◌, subst, lit<, arith, length-append}
+use Rattle.std.proofs.Common.{◌≡◌, ℕ, ◌==◌, ap₂, ◌^◌, ◌<◌, ◌≤◌, Bool, true, false, cond, List, [], ◌∷◌, length, Option, Some, None, IfSome, IfNone, refl, sym, ap, ◌∙◌, subst, lit<, arith, length-append}
 use Rattle.std.specs.Prelude.{codes}
 use Rattle.std.specs.Fmt.{decimal}
 use Rattle.std.specs.List.{join_with_byte}
@@ -10,11 +10,11 @@ use Rattle.std.proofs.lemmas.List.Splits.{join_with_byte-slice_split}
 use Rattle.std.proofs.lemmas.Option.{cond_some, same_Some, none-some}
 use Rattle.std.proofs.lemmas.Slice.Eq.{bytes_eq-Decides}
 use Rattle.band_play.specs.declared.call.Call.{Call}
-use Rattle.band_play.specs.declared.call.Call.TheVariants.{Sem, Ask, Poll, Drop, Try, Release, Reduce, Drain, Forget, Split, Merge, Status}
+use Rattle.band_play.specs.declared.call.Call.TheVariants.{Sem, Mutex, Rw, Ask, Lock, Read, Write, Poll, Drop, Try, TryLock, TryRead, TryWrite, Release, Reduce, Drain, Forget, Split, Merge, Downgrade, Status}
 use Rattle.band_play.specs.Name.{IsName, is_name, name_of}
 use Rattle.band_play.specs.Number.{number_of}
 use Rattle.band_play.specs.Words.{words_of, word_at, name_at, number_at, end_with, ◌>>=◌}
-use Rattle.band_play.specs.Grammar.{IsForm, IsLine, one_name_of, two_names_of, name_number_of, two_names_number_of, ask_of, form_of, call_of}
+use Rattle.band_play.specs.Grammar.{IsForm, IsLine, one_name_of, two_names_of, name_number_of, two_names_number_of, ask_of, above_zero, most_of, readers_of, rw_of, form_of, call_of}
 use Rattle.band_play.proofs.NumberLemmas.{number_of-decimal, decimal-number_of}
 
 -- a step that gave something, and what the next made of it
@@ -146,6 +146,51 @@ unfolding ask_of
 ask_again made of n waker made_is of_is n_fits waker_fits =
     rw (name_at_again made _ made_is, name_at_again of _ of_is, number_at_again n _ n_fits, number_at_again waker _ waker_fits) refl
 
+-- a number that isn't 0, with the most readers that it is
+above_zero_takes : (n max : ℕ) → above_zero n ≡ Some max → (n ≡ max) × (0 < max)
+above_zero_takes n max e = go (n == 0) refl e
+  where
+    go : (b : Bool) → (n == 0) ≡ b → cond b None (Some n) ≡ Some max → (n ≡ max) × (0 < max)
+    go true is e = absurd (none-some max e)
+    go false is e = let same : n ≡ max = same_Some n max e in (same, grind (arith, same, is))
+
+above_zero_again : (n : ℕ) → 0 < n → above_zero n ≡ Some n
+above_zero_again n some = go (n == 0) refl
+  where
+    go : (b : Bool) → (n == 0) ≡ b → cond b None (Some n) ≡ Some n
+    go true is = absurd (grind (arith, some, is))
+    go false is = refl
+
+most_takes : (made : List ℕ) (words : List (List ℕ)) (call : Call) → IsName made → most_of made words ≡ Some call → IsForm (codes "rw" ∷ made ∷ words) call
+unfolding most_of
+most_takes made words call made_is e =
+    let n = bind_some (number_at words) _ call e in
+    let max = bind_some (above_zero n.0.0) _ call n.2 in
+    let ended = end_takes n.0.1 (Rw made (Some max.0)) call max.2 in
+    let n_is = number_at_takes words n.0 n.1 in
+    let max_is = above_zero_takes n.0.0 max.0 max.1 in
+    rw (← ended.1) (made_is, subst (λ k. k < 2 ^ 64) max_is.0 n_is.0, max_is.1, ap (λ ws. codes "rw" ∷ made ∷ ws) (n_is.1 ∙ ap₂ (λ k ws. decimal k ∷ ws) max_is.0 ended.0))
+
+readers_take : (made : List ℕ) (words : List (List ℕ)) (call : Call) → IsName made → readers_of made words ≡ Some call → IsForm (codes "rw" ∷ made ∷ words) call
+unfolding readers_of
+readers_take made [] call made_is e = rw (← same_Some _ _ e) (made_is, refl)
+readers_take made (word ∷ words) call made_is e = most_takes made (word ∷ words) call made_is e
+
+rw_takes : (words : List (List ℕ)) (call : Call) → rw_of words ≡ Some call → IsForm (codes "rw" ∷ words) call
+unfolding rw_of
+rw_takes words call e =
+    let made = bind_some (name_at words) _ call e in
+    let made_is = name_at_takes words made.0 made.1 in
+    rw made_is.1 (readers_take made.0.0 made.0.1 call made_is.0 made.2)
+
+rw_again : (made : List ℕ) → IsName made → rw_of (made ∷ []) ≡ Some (Rw made None)
+unfolding rw_of readers_of
+rw_again made made_is = rw (name_at_again made _ made_is) refl
+
+rw_most_again : (made : List ℕ) (n : ℕ) → IsName made → n < 2 ^ 64 → 0 < n → rw_of (made ∷ decimal n ∷ []) ≡ Some (Rw made (Some n))
+unfolding rw_of readers_of most_of
+rw_most_again made n made_is fits some = rw (name_at_again made _ made_is, number_at_again n _ fits, above_zero_again n some) refl
+
 -- the first word has the form read that it names
 chosen : (word form : List ℕ) (words : List (List ℕ)) (call : Call) (read : List (List ℕ) → Option Call) (others : Option Call) → Takes word read
     → (others ≡ Some call → IsForm (form ∷ words) call) → cond (bytes_eq form word) (read words) others ≡ Some call → IsForm (form ∷ words) call
@@ -159,18 +204,27 @@ form_takes : (form : List ℕ) (words : List (List ℕ)) (call : Call) → form_
 unfolding form_of
 form_takes form words call =
     chosen _ form words call _ _ (name_number_takes (codes "sem") Sem (λ _ _ name_is fits. (name_is, fits, refl))) (
+    chosen _ form words call _ _ (one_name_takes (codes "mutex") Mutex (λ _ name_is. (name_is, refl))) (
+    chosen (codes "rw") form words call _ _ rw_takes (
     chosen (codes "ask") form words call _ _ ask_takes (
+    chosen _ form words call _ _ (two_names_number_takes (codes "lock") Lock (λ _ _ _ first_is second_is fits. (first_is, second_is, fits, refl))) (
+    chosen _ form words call _ _ (two_names_number_takes (codes "read") Read (λ _ _ _ first_is second_is fits. (first_is, second_is, fits, refl))) (
+    chosen _ form words call _ _ (two_names_number_takes (codes "write") Write (λ _ _ _ first_is second_is fits. (first_is, second_is, fits, refl))) (
     chosen _ form words call _ _ (name_number_takes (codes "poll") Poll (λ _ _ name_is fits. (name_is, fits, refl))) (
     chosen _ form words call _ _ (one_name_takes (codes "drop") Drop (λ _ name_is. (name_is, refl))) (
     chosen _ form words call _ _ (two_names_number_takes (codes "try") Try (λ _ _ _ first_is second_is fits. (first_is, second_is, fits, refl))) (
+    chosen _ form words call _ _ (two_names_takes (codes "trylock") TryLock (λ _ _ first_is second_is. (first_is, second_is, refl))) (
+    chosen _ form words call _ _ (two_names_takes (codes "tryread") TryRead (λ _ _ first_is second_is. (first_is, second_is, refl))) (
+    chosen _ form words call _ _ (two_names_takes (codes "trywrite") TryWrite (λ _ _ first_is second_is. (first_is, second_is, refl))) (
     chosen _ form words call _ _ (name_number_takes (codes "release") Release (λ _ _ name_is fits. (name_is, fits, refl))) (
     chosen _ form words call _ _ (name_number_takes (codes "reduce") Reduce (λ _ _ name_is fits. (name_is, fits, refl))) (
     chosen _ form words call _ _ (name_number_takes (codes "drain") Drain (λ _ _ name_is fits. (name_is, fits, refl))) (
     chosen _ form words call _ _ (one_name_takes (codes "forget") Forget (λ _ name_is. (name_is, refl))) (
     chosen _ form words call _ _ (two_names_number_takes (codes "split") Split (λ _ _ _ first_is second_is fits. (first_is, second_is, fits, refl))) (
     chosen _ form words call _ _ (two_names_takes (codes "merge") Merge (λ _ _ first_is second_is. (first_is, second_is, refl))) (
+    chosen _ form words call _ _ (one_name_takes (codes "downgrade") Downgrade (λ _ name_is. (name_is, refl))) (
     chosen _ form words call _ _ (one_name_takes (codes "status") Status (λ _ name_is. (name_is, refl))) (
-    λ none. cc))))))))))))
+    λ none. cc)))))))))))))))))))))
 
 words_take : (words : List (List ℕ)) (call : Call) → (word_at words >>= (λ form. form_of form.0 form.1)) ≡ Some call → IsForm words call
 words_take [] call e = cc
@@ -179,6 +233,16 @@ words_take (form ∷ words) call e = form_takes form words call e
 words_again : (words : List (List ℕ)) (call : Call) → IsForm words call → (word_at words >>= (λ form. form_of form.0 form.1)) ≡ Some call
 unfolding form_of
 words_again words (Sem made n) is = rw is.2 (name_number_again Sem made n is.0 is.1)
+words_again words (Mutex made) is = rw is.1 (one_name_again Mutex made is.0)
+words_again words (Rw made None) is = rw is.1 (rw_again made is.0)
+words_again words (Rw made (Some n)) is = rw is.3 (rw_most_again made n is.0 is.1 is.2)
+words_again words (Lock made of waker) is = rw is.3 (two_names_number_again Lock made of waker is.0 is.1 is.2)
+words_again words (Read made of waker) is = rw is.3 (two_names_number_again Read made of waker is.0 is.1 is.2)
+words_again words (Write made of waker) is = rw is.3 (two_names_number_again Write made of waker is.0 is.1 is.2)
+words_again words (TryLock made of) is = rw is.2 (two_names_again TryLock made of is.0 is.1)
+words_again words (TryRead made of) is = rw is.2 (two_names_again TryRead made of is.0 is.1)
+words_again words (TryWrite made of) is = rw is.2 (two_names_again TryWrite made of is.0 is.1)
+words_again words (Downgrade name) is = rw is.1 (one_name_again Downgrade name is.0)
 words_again words (Ask made of n waker) is = rw is.4 (ask_again made of n waker is.0 is.1 is.2 is.3)
 words_again words (Poll name waker) is = rw is.2 (name_number_again Poll name waker is.0 is.1)
 words_again words (Drop name) is = rw is.1 (one_name_again Drop name is.0)
@@ -226,9 +290,39 @@ pub longest_call_line : (line : List ℕ) (call : Call) → IsLine line call →
 longest_call_line line (Sem made n) is =
     let whole = length_from_words line _ is.2 in
     omega (arith, simp length-append at whole, length_of_name made is.0, length_of_number n is.1)
+longest_call_line line (Mutex made) is =
+    let whole = length_from_words line _ is.1 in
+    omega (arith, simp length-append at whole, length_of_name made is.0)
+longest_call_line line (Rw made None) is =
+    let whole = length_from_words line _ is.1 in
+    omega (arith, simp length-append at whole, length_of_name made is.0)
+longest_call_line line (Rw made (Some n)) is =
+    let whole = length_from_words line _ is.3 in
+    omega (arith, simp length-append at whole, length_of_name made is.0, length_of_number n is.1)
 longest_call_line line (Ask made of n waker) is =
     let whole = length_from_words line _ is.4 in
     omega (arith, simp length-append at whole, length_of_name made is.0, length_of_name of is.1, length_of_number n is.2, length_of_number waker is.3)
+longest_call_line line (Lock made of waker) is =
+    let whole = length_from_words line _ is.3 in
+    omega (arith, simp length-append at whole, length_of_name made is.0, length_of_name of is.1, length_of_number waker is.2)
+longest_call_line line (Read made of waker) is =
+    let whole = length_from_words line _ is.3 in
+    omega (arith, simp length-append at whole, length_of_name made is.0, length_of_name of is.1, length_of_number waker is.2)
+longest_call_line line (Write made of waker) is =
+    let whole = length_from_words line _ is.3 in
+    omega (arith, simp length-append at whole, length_of_name made is.0, length_of_name of is.1, length_of_number waker is.2)
+longest_call_line line (TryLock made of) is =
+    let whole = length_from_words line _ is.2 in
+    omega (arith, simp length-append at whole, length_of_name made is.0, length_of_name of is.1)
+longest_call_line line (TryRead made of) is =
+    let whole = length_from_words line _ is.2 in
+    omega (arith, simp length-append at whole, length_of_name made is.0, length_of_name of is.1)
+longest_call_line line (TryWrite made of) is =
+    let whole = length_from_words line _ is.2 in
+    omega (arith, simp length-append at whole, length_of_name made is.0, length_of_name of is.1)
+longest_call_line line (Downgrade name) is =
+    let whole = length_from_words line _ is.1 in
+    omega (arith, simp length-append at whole, length_of_name name is.0)
 longest_call_line line (Poll name waker) is =
     let whole = length_from_words line _ is.2 in
     omega (arith, simp length-append at whole, length_of_name name is.0, length_of_number waker is.1)

@@ -1,11 +1,11 @@
 -- Lines with the call that each stands for, computed.
 use Rattle.std.proofs.Common.{◌≡◌, Some, None, refl}
 use Rattle.std.specs.Prelude.{codes}
-use Rattle.band_play.specs.declared.call.Call.TheVariants.{Sem, Ask, Poll, Drop, Try, Release, Reduce, Drain, Forget, Split, Merge, Status}
+use Rattle.band_play.specs.declared.call.Call.TheVariants.{Sem, Mutex, Rw, Ask, Lock, Read, Write, Poll, Drop, Try, TryLock, TryRead, TryWrite, Release, Reduce, Drain, Forget, Split, Merge, Downgrade, Status}
 use Rattle.band_play.specs.Name.{name_of}
 use Rattle.band_play.specs.Number.{number_of}
 use Rattle.band_play.specs.Words.{name_at, number_at}
-use Rattle.band_play.specs.Grammar.{call_of, form_of, one_name_of, two_names_of, name_number_of, two_names_number_of, ask_of}
+use Rattle.band_play.specs.Grammar.{call_of, form_of, one_name_of, two_names_of, name_number_of, two_names_number_of, ask_of, rw_of, readers_of, most_of}
 
 sem_row : call_of (codes "sem sem 0") ≡ Some (Sem (codes "sem") 0)
 unfolding call_of form_of name_number_of name_at number_at name_of number_of
@@ -54,6 +54,54 @@ merge_row = refl
 status_row : call_of (codes "status o") ≡ Some (Status (codes "o"))
 unfolding call_of form_of one_name_of name_at number_at name_of number_of
 status_row = refl
+
+mutex_row : call_of (codes "mutex mutex") ≡ Some (Mutex (codes "mutex"))
+unfolding call_of form_of one_name_of name_at number_at name_of number_of
+mutex_row = refl
+
+rw_row : call_of (codes "rw l") ≡ Some (Rw (codes "l") None)
+unfolding call_of form_of rw_of readers_of most_of name_at number_at name_of number_of
+rw_row = refl
+
+rw_most_row : call_of (codes "rw l 3") ≡ Some (Rw (codes "l") (Some 3))
+unfolding call_of form_of rw_of readers_of most_of name_at number_at name_of number_of
+rw_most_row = refl
+
+rw_none_row : call_of (codes "rw l 0") ≡ None
+unfolding call_of form_of rw_of readers_of most_of name_at number_at name_of number_of
+rw_none_row = refl
+
+rw_space_row : call_of (codes "rw l ") ≡ None
+unfolding call_of form_of rw_of readers_of most_of name_at number_at name_of number_of
+rw_space_row = refl
+
+lock_row : call_of (codes "lock a m 1") ≡ Some (Lock (codes "a") (codes "m") 1)
+unfolding call_of form_of two_names_number_of name_at number_at name_of number_of
+lock_row = refl
+
+read_row : call_of (codes "read r l 2") ≡ Some (Read (codes "r") (codes "l") 2)
+unfolding call_of form_of two_names_number_of name_at number_at name_of number_of
+read_row = refl
+
+write_row : call_of (codes "write w l 3") ≡ Some (Write (codes "w") (codes "l") 3)
+unfolding call_of form_of two_names_number_of name_at number_at name_of number_of
+write_row = refl
+
+trylock_row : call_of (codes "trylock g m") ≡ Some (TryLock (codes "g") (codes "m"))
+unfolding call_of form_of two_names_of name_at number_at name_of number_of
+trylock_row = refl
+
+tryread_row : call_of (codes "tryread g l") ≡ Some (TryRead (codes "g") (codes "l"))
+unfolding call_of form_of two_names_of name_at number_at name_of number_of
+tryread_row = refl
+
+trywrite_row : call_of (codes "trywrite g l") ≡ Some (TryWrite (codes "g") (codes "l"))
+unfolding call_of form_of two_names_of name_at number_at name_of number_of
+trywrite_row = refl
+
+downgrade_row : call_of (codes "downgrade g") ≡ Some (Downgrade (codes "g"))
+unfolding call_of form_of one_name_of name_at number_at name_of number_of
+downgrade_row = refl
 
 longest_name_row : call_of (codes "drop aaaaaaaabbbbbbbbccccccccdddddddd") ≡ Some (Drop (codes "aaaaaaaabbbbbbbbccccccccdddddddd"))
 unfolding call_of form_of one_name_of name_at number_at name_of number_of

@@ -5,7 +5,7 @@ use Rattle.std.proofs.lemmas.List.Splits.{slice_split_none, slice_split_first}
 use Rattle.std.proofs.lemmas.List.Sums.{fails_before_first}
 use Rattle.std.specs.List.{onto_first, position_or_len}
 use Rattle.std.specs.Prelude.{◌==◌, position}
-use Rattle.band_play.specs.Words.{words_of, end_with}
+use Rattle.band_play.specs.Words.{words_of, no_words, end_with}
 
 -- a line has a word, if only an empty one
 pub words_of-some : (line : List ℕ) → (word : List ℕ) × (words : List (List ℕ)) × (words_of line ≡ word ∷ words)
@@ -20,6 +20,9 @@ words_of-some (byte ∷ line) = by_first (byte == 32) (words_of line)
 -- so nothing ends before it
 pub not_ended : {A : Type 0} (line : List ℕ) (read : A) → None ≡ end_with (words_of line) read
 not_ended line read = let some = words_of-some line in rw some.2 refl
+
+pub some_left : (line : List ℕ) → false ≡ no_words (words_of line)
+some_left line = let some = words_of-some line in rw some.2 refl
 
 -- what `position` answers, without it
 no_position : {A : Type 0} (b : Bool) (x : A) → None ≡ cond b (Some x) None → b ≡ false

@@ -5,7 +5,7 @@ use Rattle.std.specs.Str.{bytes_eq}
 use Rattle.band_play.specs.declared.call.Call.{Call}
 use Rattle.band_play.specs.declared.call.Call.TheVariants.{Sem, Mutex, Rw, Ask, Lock, Read, Write, Poll, Drop, Try, TryLock, TryRead, TryWrite, Release, Reduce, Drain, Forget, Split, Merge, Downgrade, Status}
 use Rattle.band_play.specs.Name.{IsName}
-use Rattle.band_play.specs.Words.{words_of, word_at, name_at, number_at, end_with, ◌>>=◌}
+use Rattle.band_play.specs.Words.{words_of, word_at, name_at, number_at, no_words, end_with, ◌>>=◌}
 
 -- a number has one spelling
 abbrev pub IsNumber : ℕ → Type 0
@@ -79,12 +79,14 @@ abbrev pub above_zero : ℕ → Option ℕ
 above_zero n = if n == 0 then None else Some n
 
 -- with the most readers, or without
-unfoldable pub readers_of : List ℕ → List (List ℕ) → Option Call
-readers_of made [] = Some (Rw made None)
-readers_of made (word ∷ words) = do
-  n ← number_at (word ∷ words)
+unfoldable pub most_of : List ℕ → List (List ℕ) → Option Call
+most_of made words = do
+  n ← number_at words
   max ← above_zero n.0
   end_with n.1 (Rw made (Some max))
+
+unfoldable pub readers_of : List ℕ → List (List ℕ) → Option Call
+readers_of made words = if no_words words then Some (Rw made None) else most_of made words
 
 unfoldable pub rw_of : List (List ℕ) → Option Call
 rw_of words = do

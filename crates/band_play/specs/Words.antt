@@ -1,5 +1,5 @@
 -- The words of a line, and what stands at their front.
-use Rattle.std.specs.Prelude.{ℕ, ◌==◌, List, [], ◌∷◌, Option, Some, None, option_and_then}
+use Rattle.std.specs.Prelude.{ℕ, Bool, true, false, ◌==◌, List, [], ◌∷◌, Option, Some, None, option_and_then}
 use Rattle.std.specs.List.{slice_split}
 use Rattle.band_play.specs.Name.{name_of}
 use Rattle.band_play.specs.Number.{number_of}
@@ -30,6 +30,11 @@ number_at words = do
   word ← word_at words
   n ← number_of word.0
   Some (n, word.1)
+
+-- no word is left
+abbrev pub no_words : List (List ℕ) → Bool
+no_words [] = true
+no_words (word ∷ words) = false
 
 -- what was read, if no word is left
 abbrev pub end_with : {A : Type 0} → List (List ℕ) → A → Option A

@@ -2,7 +2,7 @@
 ghost use Rattle.std.specs.Prelude.{◌≡◌, ◌≤◌, List, ℕ, length, IfSome, IfNone};
 ghost use Rattle.band_play.specs.declared.call.Call.{Call as TheCall};
 ghost use Rattle.band_play.specs.Left.{words_left};
-ghost use Rattle.band_play.specs.Grammar.{IsLine, call_of, form_of, one_name_of, two_names_of, name_number_of, two_names_number_of, ask_of, rw_of, readers_of};
+ghost use Rattle.band_play.specs.Grammar.{IsLine, call_of, form_of, one_name_of, two_names_of, name_number_of, two_names_number_of, ask_of, rw_of, readers_of, most_of};
 
 use crate::words::Words;
 use crate::{Call, Name};
@@ -108,6 +108,13 @@ fn parse_readers(made: Name, words: &mut Words) -> Option<Call>
     if words.is_empty() {
         return Some(Call::Rw { made, n: None });
     }
+    parse_most(made, words)
+}
+
+#[tactic(auto, unfolding(crate::specs::Grammar::most_of))]
+fn parse_most(made: Name, words: &mut Words) -> Option<Call>
+    ensures { result ≡ most_of made (words_left words.old) }
+{
     let n = words.number()?;
     if n == 0 {
         return None;

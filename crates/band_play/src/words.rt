@@ -1,7 +1,7 @@
 //! A reader of the words of a line.
-ghost use Rattle.std.specs.Prelude.{◌≡◌, ◌==◌, ◌↔◌, IsTrue, List, [], ◌∷◌, ℕ, position};
+ghost use Rattle.std.specs.Prelude.{◌≡◌, ◌==◌, List, [], ◌∷◌, ℕ, position};
 ghost use Rattle.std.specs.Option.{option_map};
-ghost use Rattle.band_play.specs.Words.{words_of, word_at, name_at, number_at, end_with};
+ghost use Rattle.band_play.specs.Words.{words_of, word_at, name_at, number_at, no_words, end_with};
 ghost use Rattle.band_play.specs.Left.{words_in, words_left};
 
 use crate::number::number_from_word;
@@ -50,9 +50,12 @@ impl<'a> Words<'a> {
 
     /// Whether no word is left.
     pub(crate) fn is_empty(&self) -> bool
-        ensures { IsTrue result ↔ (words_left self.now ≡ []) }
+        ensures { result ≡ no_words (words_left self.now) }
     {
-        self.rest.is_none()
+        match self.rest {
+            None => true,
+            Some(_) => false,
+        }
     }
 
     /// The call that was read, if no word is left.
