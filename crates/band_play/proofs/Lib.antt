@@ -26,6 +26,7 @@ pub mod Requests
 pub mod Resized
 pub mod Sound
 pub mod Standing
+pub mod Starting
 pub mod Statuses
 pub mod TableLemmas
 pub mod Telling

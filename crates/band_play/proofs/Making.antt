@@ -13,12 +13,15 @@ use Rattle.band_play.specs.declared.reply.Reply.TheVariants as replies
 use Rattle.band_play.specs.declared.thing.Thing.{Thing}
 use Rattle.band_play.specs.declared.thing.Thing.TheVariants as things
 use Rattle.band_play.specs.Names.{Updated}
+use Rattle.band_play.specs.declared.object.New.{New}
+use Rattle.band_play.specs.Moves.{kind_made, count_made}
 use Rattle.band_play.specs.State.{State, Named, Tag}
 use Rattle.band_play.specs.Step.{Outcome, unless_taken, making}
 use Rattle.band_play.specs.Table.{StandsAt, StandsUnder, IsKnown}
 use Rattle.band_play.specs.Kept.{wakes_of}
 use Rattle.band_play.proofs.Lists.{by_bool}
 use Rattle.band_play.proofs.Standing.{same_bytes, bytes_same}
+use Rattle.band_play.proofs.Starting.{nothing_twice}
 use Rattle.band_play.proofs.Change.{stands_still, place_of}
 use Rattle.band_play.proofs.Follow.{Matches, refused_follows, stands_as, taken, quiet_at}
 
@@ -42,25 +45,17 @@ pub at_end : {A : Type 0} (xs : List A) (x : A) → slice_get (xs ++ x ∷ []) (
 at_end [] x = refl
 at_end (z ∷ zs) x = at_end zs x
 
-pub nothing_twice : {N : Type 0} (same : N → N → Bool) → IsDistinct same []
-unfolding IsDistinct
-nothing_twice same = tt
-
-pub lawful_start : (n : ℕ) → n < 2 ^ 64 → IsLawful (open_line n) 0
-lawful_start n fits = record {
-  one_each = nothing_twice nat_eq;
-  head_waits = tt;
-  in_hand = omega arith;
-  in_all = omega (arith, ints);
-  owed = omega (arith, ints);
-}
-
 -- an object of n at a place, that nobody called
 abbrev pub fresh : Kind → ℕ → ℕ → ObjectState
 fresh kind place n = record { kind = kind; number = place; line = open_line n; held = 0 }
 
 abbrev pub unused : Kind → ℕ → Object Tag
 unused kind n = record { kind = kind; line = open_line n; held = [] }
+
+-- what is made is steady, under the number that it gets
+pub starts_steady : (new : New) (number : ℕ) (made : ObjectState) {place : ℕ} → made ≡ fresh (kind_made new) number (count_made new) → IsSteady made → number ≡ place → IsSteady (fresh (kind_made new) place (count_made new))
+starts_steady new number made start steady same =
+    subst (λ k. IsSteady (fresh (kind_made new) k (count_made new))) same (subst (λ (o : ObjectState). IsSteady o) start steady)
 
 module _ (names : ℕ → ℕ → Tag) (table : List ℕ → Option Thing) (sems : List ObjectState) (state : State) (stands : StandsUnder names table sems state) where
   module _ (table' : List ℕ → Option Thing) (kind : Kind) (made : List ℕ) (n : ℕ) (steady : IsSteady (fresh kind (length sems) n)) (absent : table made ≡ None)

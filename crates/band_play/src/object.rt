@@ -52,6 +52,7 @@ impl Object {
     ghost use Rattle.std.specs.Prelude.{◌≡◌, ◌+◌, ◌<◌, ◌↔◌, [], ◌∷◌, IsTrue, IsSome, IfSome, OnSome, IfNone, IsErrOf, OnOk, OnErr, MatchOption};
     ghost use Rattle.band_balance.specs.Line.{open_line, drained, overflows, owes_too_much, is_served, take_permits, give_back};
     ghost use Rattle.band_balance.specs.Object.{Permit};
+    ghost use Rattle.band_balance.specs.Object as kinds;
     ghost use Rattle.band_sem.specs.declared.acquire.Stage.{Stage};
     ghost use Rattle.band_play.specs.Objects.{shares_of, IsSteady};
     ghost use Rattle.band_play.specs.Moves.{mode_of, size_for, kind_made, count_made, IsForReaders};
@@ -61,14 +62,38 @@ impl Object {
     pub(crate) fn new(alloc: Global, number: u64, new: New) -> Object
         requires { IsForReaders new }
         ensures start { result ≡ record { kind = kind_made new; number = number; line = open_line (count_made new); held = 0 } }
+        ensures steady { IsSteady result }
     {
-        let primitive = match new {
-            New::Semaphore(n) => Primitive::Semaphore(Semaphore::new(alloc, number, n)),
-            New::Mutex => Primitive::Mutex(MutexState::new(alloc, number)),
-            New::ReaderWriter(max) => {
-                Primitive::ReaderWriter(RwLockState::with_max_readers(alloc, number, max))
-            }
-        };
+        match new {
+            New::Semaphore(n) => Object::new_semaphore(alloc, number, n),
+            New::Mutex => Object::new_mutex(alloc, number),
+            New::ReaderWriter(max) => Object::new_reader_writer(alloc, number, max),
+        }
+    }
+
+    fn new_semaphore(alloc: Global, number: u64, n: u64) -> Object
+        ensures start { result ≡ record { kind = kinds.Semaphore; number = number; line = open_line n; held = 0 } }
+        ensures steady { IsSteady result }
+    {
+        let primitive = Primitive::Semaphore(Semaphore::new(alloc, number, n));
+        Object { primitive }
+    }
+
+    fn new_mutex(alloc: Global, number: u64) -> Object
+        ensures start { result ≡ record { kind = kinds.Mutex; number = number; line = open_line 1; held = 0 } }
+        ensures steady { IsSteady result }
+    {
+        let primitive = Primitive::Mutex(MutexState::new(alloc, number));
+        Object { primitive }
+    }
+
+    fn new_reader_writer(alloc: Global, number: u64, max: u64) -> Object
+        requires { 0 < max }
+        ensures start { result ≡ record { kind = kinds.ReaderWriter max; number = number; line = open_line max; held = 0 } }
+        ensures steady { IsSteady result }
+    {
+        let lock = RwLockState::with_max_readers(alloc, number, max);
+        let primitive = Primitive::ReaderWriter(lock);
         Object { primitive }
     }
 

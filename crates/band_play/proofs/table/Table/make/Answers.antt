@@ -1,12 +1,11 @@
 use Rattle.std.proofs.Common.{◌≡◌, length, refl, ap, arith}
-use Rattle.band_balance.specs.Object.{Semaphore, new_semaphore}
-use Rattle.band_play.specs.Objects.{of_kind}
-use Rattle.band_play.proofs.Making.{lawful_start}
+use Rattle.band_play.specs.Moves.{kind_made, count_made, object_made}
+use Rattle.band_play.proofs.Making.{starts_steady}
 use Rattle.band_play.proofs.TableLemmas.{make_takes, make_done, make_sound, stays, same_names, sound_same, none_from, updated_twice, on_err, object_placed, pushed}
-use Rattle.band_play.proofs.table.Table.make_semaphore.Goals as goal
+use Rattle.band_play.proofs.table.Table.make.Goals as goal
 
 pub returns-then-is_live-clause-follows : goal.returns-then-is_live-clause-follows
-returns-then-is_live-clause-follows c = make_takes c.args.self.now c.requires.sound c.requires.quiet c.args.made.now (new_semaphore c.args.n) (c.is_live.ensures.0 c.if-is_live.true)
+returns-then-is_live-clause-follows c = make_takes c.args.self.now c.requires.sound c.requires.quiet c.args.made.now (object_made c.args.new) (c.is_live.ensures.0 c.if-is_live.true)
 
 pub returns-in_err-reserve-clause-sound : goal.returns-in_err-reserve-clause-sound
 returns-in_err-reserve-clause-sound c = sound_same c.args.self.now _ c.requires.sound (λ name. refl) c.in_err-reserve.ensures.items refl
@@ -24,14 +23,14 @@ pub returns-clause-follows : goal.returns-clause-follows
 returns-clause-follows c =
     let place : c.len-place.result ≡ length c.args.self.now.objects.items = omega arith in
     make_done c.args.self.now c.requires.sound c.requires.quiet (record { names = c.set.new.names; objects = c.push.new.self; last = c.args.self.now.last })
-    Semaphore c.args.made.now c.args.n (lawful_start c.args.n c.ranges.n.fits, tt) (none_from _ c.is_live.result c.is_live.ensures.1 c.if-is_live.false)
+    (kind_made c.args.new) c.args.made.now (count_made c.args.new) (starts_steady c.args.new c.len-place.result c.new.result c.new.ensures.start c.new.ensures.steady place) (none_from _ c.is_live.result c.is_live.ensures.1 c.if-is_live.false)
     (updated_twice _ _ _ c.args.made.now _ _ c.in_ok-reserve-2.ensures.ok (object_placed _ _ c.args.made.now _ _ place c.set.ensures))
-    (pushed c.args.self.now.objects.items c.reserve.new.self.items c.push.new.self.items c.push.result _ (of_kind Semaphore c.new.result) Semaphore c.len-place.result c.args.n c.push.ensures.items c.unwrap.ensures c.in_ok-reserve.ensures.items (ap (of_kind Semaphore) c.new.ensures) place)
+    (pushed c.args.self.now.objects.items c.reserve.new.self.items c.push.new.self.items c.push.result _ c.new.result (kind_made c.args.new) c.len-place.result (count_made c.args.new) c.push.ensures.items c.unwrap.ensures c.in_ok-reserve.ensures.items c.new.ensures.start place)
 
 pub returns-clause-sound : goal.returns-clause-sound
 returns-clause-sound c =
     let place : c.len-place.result ≡ length c.args.self.now.objects.items = omega arith in
     make_sound c.args.self.now c.requires.sound c.requires.quiet (record { names = c.set.new.names; objects = c.push.new.self; last = c.args.self.now.last })
-    Semaphore c.args.made.now c.args.n (lawful_start c.args.n c.ranges.n.fits, tt) (none_from _ c.is_live.result c.is_live.ensures.1 c.if-is_live.false)
+    (kind_made c.args.new) c.args.made.now (count_made c.args.new) (starts_steady c.args.new c.len-place.result c.new.result c.new.ensures.start c.new.ensures.steady place) (none_from _ c.is_live.result c.is_live.ensures.1 c.if-is_live.false)
     (updated_twice _ _ _ c.args.made.now _ _ c.in_ok-reserve-2.ensures.ok (object_placed _ _ c.args.made.now _ _ place c.set.ensures))
-    (pushed c.args.self.now.objects.items c.reserve.new.self.items c.push.new.self.items c.push.result _ (of_kind Semaphore c.new.result) Semaphore c.len-place.result c.args.n c.push.ensures.items c.unwrap.ensures c.in_ok-reserve.ensures.items (ap (of_kind Semaphore) c.new.ensures) place)
+    (pushed c.args.self.now.objects.items c.reserve.new.self.items c.push.new.self.items c.push.result _ c.new.result (kind_made c.args.new) c.len-place.result (count_made c.args.new) c.push.ensures.items c.unwrap.ensures c.in_ok-reserve.ensures.items c.new.ensures.start place)
