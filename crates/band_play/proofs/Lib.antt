@@ -5,6 +5,7 @@ pub mod Change
 pub mod Conservation
 pub mod Devices
 pub mod Distinct
+pub mod Downgrading
 pub mod Follow
 pub mod Givens
 pub mod Goings
@@ -22,6 +23,7 @@ pub mod ObjectPermits
 pub mod Parts
 pub mod Permits
 pub mod Permitting
+pub mod Replaced
 pub mod Requests
 pub mod Resized
 pub mod Sound

@@ -1,10 +1,10 @@
 -- A permit that is given back in the table.
-use Rattle.std.proofs.Common.{◌≡◌, ℕ, true, ◌+◌, ◌-◌, List, [], Option, Some, None, refl, sym, ap, ◌∙◌, subst, arith}
+use Rattle.std.proofs.Common.{◌≡◌, ℕ, true, false, ◌+◌, ◌-◌, List, [], Option, Some, None, refl, sym, ap, ◌∙◌, subst, arith}
 use Rattle.std.specs.List.{AllByRecursion, slice_get}
 use Rattle.std.specs.Str.{bytes_eq}
 use Rattle.std.proofs.lemmas.Option.{same_Some}
 use Rattle.band_balance.specs.Line.{Entry, Line, requests, rename, entry_named, total, without, give_back}
-use Rattle.band_balance.specs.Object.{Object, Mode, Done, turn, drop, drop_of, forget, resize}
+use Rattle.band_balance.specs.Object.{Object, Mode, Done, turn, drop, drop_of, forget, resize, replace}
 use Rattle.band_balance.proofs.Rename.{give_back-rename}
 use Rattle.band_balance.proofs.Requests.{requests-give_back, entry_named-without_other}
 use Rattle.band_balance.proofs.Settle.{total-without}
@@ -17,8 +17,10 @@ use Rattle.band_play.specs.Table.{StandsAt, StandsUnder, request_at, holding_at}
 use Rattle.band_play.specs.Names.{Updated}
 use Rattle.band_play.proofs.Change.{place_of, all_weaker, stays}
 use Rattle.band_play.proofs.Distinct.{others_stay, once_without}
-use Rattle.band_play.proofs.Lists.{at_set_same}
-use Rattle.band_play.proofs.Standing.{same_bytes}
+use Rattle.band_play.proofs.Lists.{by_bool, at_set_same}
+use Rattle.band_play.proofs.Replaced.{total-replace, found-replace, all-replace, other-replace, once-replace}
+use Rattle.band_play.proofs.Standing.{same_bytes, bytes_same}
+use Rattle.std.proofs.lemmas.Bool.{false≢true}
 use Rattle.band_play.proofs.Resized.{names-resize, total-resize, found-resize, all-resize, other-resize}
 use Rattle.band_play.proofs.Turns.{with_object, quieted, TurnsTo, turns_to, quiet_line, tags_one, tags_apart}
 
@@ -144,3 +146,44 @@ module _ (names : ℕ → ℕ → Tag) (table table' : List ℕ → Option Thing
         })
         (with_object named (quieted resized_object), at_set_same state place named (with_object named (quieted resized_object)) at_named, found-resize (is_tag m) size named.object.held (record { name = tag mode m; size = count }) own, subst (λ k. Fits k mode size) (sym here.kind) fits)
         Done
+
+  -- it is held in another mode and size, and the line becomes another with the same requests
+  module _ (after : Line ℕ) (after_named : Line Tag) (renamed : after_named ≡ rename (names place) after) (same_requests : requests after ≡ requests sem.line)
+      (other : Mode) (size : ℕ) (fits : Fits sem.kind other size) (update : Updated table table' m (Some (things.Holding (record { mode = other; of = place; count = size }))))
+      (held : ℕ) (held_is : held + count ≡ sem.held + size) (lawful : IsSteady (record sem { line = after; held = held })) where
+    abbrev replaced_sem : ObjectState
+    replaced_sem = record sem { line = after; held = held }
+
+    abbrev replaced_object : Object Tag
+    replaced_object = record named.object { line = after_named; held = replace (is_tag m) (tag other m) size named.object.held }
+
+    whole_held : total (replace (is_tag m) (tag other m) size named.object.held) ≡ held
+    whole_held =
+        let parts : count + total (replace (is_tag m) (tag other m) size named.object.held) ≡ size + total named.object.held = total-replace (is_tag m) (tag other m) size named.object.held (record { name = tag mode m; size = count }) own in
+        let before : total named.object.held ≡ sem.held = here.held in
+        omega arith
+
+    pub replaced : TurnsTo names table' sems state place replaced_sem named Done (turn Done replaced_object)
+    replaced =
+        turns_to names names table table' m _ sems state place sem replaced_sem named replaced_object stands update at_sem at_named same_names nowhere not_object
+        renamed refl refl refl whole_held lawful
+        (rw same_requests (requests_stay _ update))
+        (all-replace (is_tag m) (tag other m) size (λ (e : Entry Tag). table e.name.name ≡ Some (holding_at place e)) (λ (e : Entry Tag). table' e.name.name ≡ Some (holding_at place e)) named.object.held
+        (λ e is same. update.here m (bytes_same m m refl)) here.each_held (others_held _ update))
+        (once-replace m other size named.object.held here.held_once)
+        (record {
+          name = refl;
+          kind = refl;
+          same_kind = refl;
+          request = λ n s e apart found other_mode named_n. (ap (entry_named (is_slot s)) same_requests ∙ found, named_n);
+          permit = λ n e apart found. other-replace (is_tag m) (is_tag n) (tag other m) size named.object.held (not_same n apart) (tags_apart m n named.object.held apart) ∙ found;
+        }) (
+          with_object named (quieted replaced_object),
+          at_set_same state place named (with_object named (quieted replaced_object)) at_named,
+          found-replace (is_tag m) (tag other m) size (bytes_same m m refl) named.object.held (record { name = tag mode m; size = count }) own,
+          subst (λ k. Fits k other size) (sym here.kind) fits,
+        )
+        Done
+      where
+        not_same : (n : List ℕ) → bytes_eq m n ≡ false → bytes_eq n m ≡ false
+        not_same n apart = by_bool (bytes_eq n m) (λ h. absurd (false≢true (sym apart ∙ bytes_same m n (sym (same_bytes n m h))))) (λ h. h)

@@ -1,0 +1,93 @@
+use Rattle.std.proofs.Common.{◌≡◌, ◌<◌, length, Some, ap, ap₂, sym, ◌∙◌, subst, arith, rules}
+use Rattle.std.specs.List.{slice_get, slice_set}
+use Rattle.std.specs.BTreeMap.{Updates}
+use Rattle.std.specs.Ordering.{nat_cmp}
+use Rattle.std.specs.Cmp.Lexicographic.{slice_cmp}
+use Rattle.std.proofs.lemmas.Option.{slice_get_read, slice_get_within, same_Some}
+use Rattle.std.proofs.Common.{refl}
+use Rattle.band_balance.specs.Object.{Write}
+use Rattle.band_play.specs.Objects.{ObjectState, HoldingState, IsSteady, Fits}
+use Rattle.band_play.specs.declared.thing.Thing.TheVariants as things
+use Rattle.band_play.specs.Names.{thing_at, Updated}
+use Rattle.band_play.specs.Moves.{IsFit, held_as, downgraded}
+use Rattle.band_play.proofs.Permitting.{permit_from, mode_same, permit_there}
+use Rattle.band_play.proofs.Updates.{updated}
+use Rattle.band_play.proofs.table.downgrade_name.Goals as goal
+
+pub index_mut-requires : goal.index_mut-requires
+index_mut-requires g c =
+    let was : thing_at c.args.names.now c.args.name.now ≡ Some c.replace.result = search rules in
+    let writer = c.into_writer-writer.result in
+    let is : Some c.replace.result ≡ Some (things.Holding writer) = (permit_from Write (Some c.replace.result) writer c.into_writer-writer.ensures).0 in
+    let known = permit_there (slice_get c.args.objects.now.items writer.of) writer (c.requires.fits (things.Holding writer) (was ∙ is)) in
+    let at : c.of-place.result ≡ writer.of = c.of-place.ensures in
+    let within : writer.of < length c.args.objects.now.items = slice_get_within c.args.objects.now.items writer.of known.0 known.1 in
+    omega arith
+
+pub downgrade_at-reader-requires-clause-number : goal.downgrade_at-reader-requires-clause-number
+downgrade_at-reader-requires-clause-number g c =
+    let was : thing_at c.args.names.now c.args.name.now ≡ Some c.replace.result = search rules in
+    let writer = c.into_writer-writer.result in
+    let is : Some c.replace.result ≡ Some (things.Holding writer) = (permit_from Write (Some c.replace.result) writer c.into_writer-writer.ensures).0 in
+    let known = permit_there (slice_get c.args.objects.now.items writer.of) writer (c.requires.fits (things.Holding writer) (was ∙ is)) in
+    let at : c.of-place.result ≡ writer.of = c.of-place.ensures in
+    let within : writer.of < length c.args.objects.now.items = slice_get_within c.args.objects.now.items writer.of known.0 known.1 in
+    let sem = c.index_mut.result.now in
+    let there : slice_get c.args.objects.now.items writer.of ≡ Some sem = ap (slice_get c.args.objects.now.items) (sym at) ∙ slice_get_read c.args.objects.now.items _ c.of-place.result sem refl (omega arith) c.index_mut.ensures.value in
+    let same : known.0 ≡ sem = same_Some known.0 sem (sym known.1 ∙ there) in
+    known.2 ∙ ap (λ (s : ObjectState). s.number) same
+
+pub downgrade_at-reader-requires-clause-held : goal.downgrade_at-reader-requires-clause-held
+downgrade_at-reader-requires-clause-held g c =
+    let was : thing_at c.args.names.now c.args.name.now ≡ Some c.replace.result = search rules in
+    let writer = c.into_writer-writer.result in
+    let is : Some c.replace.result ≡ Some (things.Holding writer) = (permit_from Write (Some c.replace.result) writer c.into_writer-writer.ensures).0 in
+    let known = permit_there (slice_get c.args.objects.now.items writer.of) writer (c.requires.fits (things.Holding writer) (was ∙ is)) in
+    let at : c.of-place.result ≡ writer.of = c.of-place.ensures in
+    let within : writer.of < length c.args.objects.now.items = slice_get_within c.args.objects.now.items writer.of known.0 known.1 in
+    let sem = c.index_mut.result.now in
+    let there : slice_get c.args.objects.now.items writer.of ≡ Some sem = ap (slice_get c.args.objects.now.items) (sym at) ∙ slice_get_read c.args.objects.now.items _ c.of-place.result sem refl (omega arith) c.index_mut.ensures.value in
+    let same : known.0 ≡ sem = same_Some known.0 sem (sym known.1 ∙ there) in
+    let held = ap (λ (s : ObjectState). s.held) same in
+    omega (arith, known.3)
+
+pub downgrade_at-reader-requires-clause-fits : goal.downgrade_at-reader-requires-clause-fits
+downgrade_at-reader-requires-clause-fits g c =
+    let was : thing_at c.args.names.now c.args.name.now ≡ Some c.replace.result = search rules in
+    let writer = c.into_writer-writer.result in
+    let is : Some c.replace.result ≡ Some (things.Holding writer) = (permit_from Write (Some c.replace.result) writer c.into_writer-writer.ensures).0 in
+    let known = permit_there (slice_get c.args.objects.now.items writer.of) writer (c.requires.fits (things.Holding writer) (was ∙ is)) in
+    let at : c.of-place.result ≡ writer.of = c.of-place.ensures in
+    let within : writer.of < length c.args.objects.now.items = slice_get_within c.args.objects.now.items writer.of known.0 known.1 in
+    let sem = c.index_mut.result.now in
+    let there : slice_get c.args.objects.now.items writer.of ≡ Some sem = ap (slice_get c.args.objects.now.items) (sym at) ∙ slice_get_read c.args.objects.now.items _ c.of-place.result sem refl (omega arith) c.index_mut.ensures.value in
+    let same : known.0 ≡ sem = same_Some known.0 sem (sym known.1 ∙ there) in
+    subst (λ (s : ObjectState). Fits s.kind writer.mode writer.count) same known.4
+
+pub returns : goal.returns
+returns g c =
+    let was : thing_at c.args.names.now c.args.name.now ≡ Some c.replace.result = search rules in
+    let writer = c.into_writer-writer.result in
+    let is : Some c.replace.result ≡ Some (things.Holding writer) = (permit_from Write (Some c.replace.result) writer c.into_writer-writer.ensures).0 in
+    let known = permit_there (slice_get c.args.objects.now.items writer.of) writer (c.requires.fits (things.Holding writer) (was ∙ is)) in
+    let at : c.of-place.result ≡ writer.of = c.of-place.ensures in
+    let within : writer.of < length c.args.objects.now.items = slice_get_within c.args.objects.now.items writer.of known.0 known.1 in
+    let sem = c.index_mut.result.now in
+    let there : slice_get c.args.objects.now.items writer.of ≡ Some sem = ap (slice_get c.args.objects.now.items) (sym at) ∙ slice_get_read c.args.objects.now.items _ c.of-place.result sem refl (omega arith) c.index_mut.ensures.value in
+    let reader = c.downgrade_at-reader.result in
+    let set : Updated (thing_at c.args.names.now) (thing_at (c.get_mut.follows.lender c.replace-2.new.dest)) c.args.name.now (Some (things.Holding reader)) =
+    updated c.args.names.now (c.get_mut.follows.lender c.replace-2.new.dest) c.args.name.now (Some (things.Holding reader))
+    (subst (λ w. Updates (slice_cmp nat_cmp) c.args.names.now (c.get_mut.follows.lender c.replace-2.new.dest) c.args.name.now (Some w)) c.replace-2.ensures.after
+    ((c.get_mut.follows.holds c.replace-2.new.dest).3 (search rules))) in
+    record {
+      writer = writer;
+      was = ap (held_as Write) was ∙ c.into_writer-writer.ensures;
+      at = at;
+      becomes = record {
+        before = sem;
+        there = there;
+        set = ap₂ (λ k s. slice_set c.args.objects.now.items k s) at c.downgrade_at-reader.ensures.state;
+        lawful = subst (λ (s : ObjectState). IsSteady s) c.downgrade_at-reader.ensures.state c.downgrade_at-reader.ensures.steady;
+      };
+      updated = subst (λ (h : HoldingState). Updated (thing_at c.args.names.now) (thing_at (c.get_mut.follows.lender c.replace-2.new.dest)) c.args.name.now (Some (things.Holding h))) c.downgrade_at-reader.ensures.reader set;
+    }
