@@ -1,8 +1,9 @@
 //! What no clause says: that calls succeed, in small lives of a mutex and of a reader-writer lock.
-ghost use Rattle.std.specs.Prelude.{◌≡◌, ◌<◌};
+ghost use Rattle.std.specs.Prelude.{◌≡◌, ◌<◌, [], OnSome};
 ghost use Rattle.band_base.specs.declared.poll.Poll.TheVariants as poll;
+ghost use Rattle.band_lock.specs.Lock.{IsLock};
 
-use crate::{MutexState, RwLockState};
+use crate::{MutexState, RwLockState, WriteAccess};
 use band_base::{Poll, PollError, Steps, Waker};
 use band_sem::Semaphore;
 use std::alloc::Global;
@@ -210,6 +211,40 @@ fn a_granted_writer_gives_up<L: Ledger, R: Abort>(rt: &R, alloc: Global, steps: 
     assert_eq!(rt; figures(lock.semaphore()), [3, 0, 0, 0]);
 }
 
+/// Asks to write, and gives up where it would have to wait. Who writes is alone.
+fn writes<L: Ledger>(
+    lock: &mut RwLockState,
+    waker: Waker,
+    steps: &mut Steps<L>,
+) -> Option<WriteAccess>
+    ensures alone { OnSome result ((lock.new.shares.held ≡ lock.new.max) × (lock.new.shares.line.granted ≡ [])) }
+    ensures lock { IsLock lock.new.max lock.new.shares }
+{
+    let mut request = lock.write();
+    match request.poll_once(lock, waker, steps) {
+        Ok(Poll::Ready(access)) => {
+            request.lose();
+            Some(access)
+        }
+        Ok(Poll::Pending) => {
+            request.cancel(lock, steps);
+            None
+        }
+        Err(_) => {
+            request.cancel(lock, steps);
+            None
+        }
+    }
+}
+
+/// The first writes, and the second gives up.
+fn one_writes<L: Ledger, R: Abort>(rt: &R, alloc: Global, steps: &mut Steps<L>) {
+    let mut lock = RwLockState::with_max_readers(alloc, 6, 3);
+    served(rt, writes(&mut lock, Waker(1), steps)).lose();
+    unserved(rt, writes(&mut lock, Waker(2), steps));
+    assert_eq!(rt; figures(lock.semaphore()), [0, 0, 0, 3]);
+}
+
 /// Where there is one reader at a time, a writer that becomes a reader makes room for nobody.
 fn one_reads_at_a_time<L: Ledger, R: Abort>(rt: &R, alloc: Global, steps: &mut Steps<L>) {
     let mut lock = RwLockState::with_max_readers(alloc, 6, 1);
@@ -235,6 +270,7 @@ fn each_lock<L: Ledger, R: Abort>(rt: &R, alloc: Global, blank: Blank)
     both_are_tried(rt, alloc, &mut steps);
     a_waiting_writer_gives_up(rt, alloc, &mut steps);
     a_granted_writer_gives_up(rt, alloc, &mut steps);
+    one_writes(rt, alloc, &mut steps);
     one_reads_at_a_time(rt, alloc, &mut steps);
 }
 
