@@ -7,3 +7,6 @@ mod shares;
 
 pub use mutex::{LockGuard, LockRequest, MutexState};
 pub use rw_lock::{ReadAccess, ReadRequest, RwLockState, WriteAccess, WriteRequest};
+
+#[cfg(test)]
+mod tests;
