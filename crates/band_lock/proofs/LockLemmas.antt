@@ -1,5 +1,5 @@
 -- The calls of a semaphore by which it stays a lock.
-use Rattle.std.proofs.Common.{◌≡◌, ℕ, ◌+◌, ◌-◌, ◌==◌, ◌<◌, ◌≤◌, ◌||◌, ◌&&◌, Bool, true, false, cond, List, [], ◌∷◌, ◌++◌, map, Option, Some, None, Result, Ok, Err, ℤ, pos, ◌+ℤ◌, ◌-ℤ◌, ◌≤ℤ◌, int_le, refl, ap₂, arith}
+use Rattle.std.proofs.Common.{◌≡◌, ℕ, ◌+◌, ◌-◌, ◌==◌, ◌<◌, ◌≤◌, ◌||◌, ◌&&◌, Bool, true, false, cond, List, [], ◌∷◌, ◌++◌, map, Option, Some, None, Result, Ok, Err, ℤ, pos, ◌+ℤ◌, ◌-ℤ◌, ◌≤ℤ◌, int_le, refl, ap₂, arith, length}
 use Rattle.std.specs.List.{AllByRecursion}
 use Rattle.std.proofs.lemmas.Int.{ints}
 use Rattle.std.proofs.lemmas.Bool.{cond_both}
@@ -33,6 +33,15 @@ none_left (e ∷ es) asks none =
     let sum : total (e ∷ es) ≡ e.size + total es = total-cons e es in
     absurd (omega arith)
 
+-- they are no more than what they ask for
+no_more : (entries : List (Entry ℕ)) → Asks entries → length entries ≤ total entries
+no_more [] asks = omega arith
+no_more (e ∷ es) asks =
+    let first : 0 < e.size = asks.0 in
+    let rest = no_more es asks.1 in
+    let sum : total (e ∷ es) ≡ e.size + total es = total-cons e es in
+    omega arith
+
 -- one without the others is the only one
 only : (is : ℕ → Bool) (entries : List (Entry ℕ)) (found : Entry ℕ) → entry_named is entries ≡ Some found → without is entries ≡ [] → entries ≡ found ∷ []
 only is [] found there alone = cc
@@ -48,12 +57,16 @@ is_lock max lock none_owed shares asks = record {
   none_owed = none_owed;
   shares = shares;
   each_asks = asks;
+  at_most = within lock.line.free (length lock.line.granted) (total lock.line.granted) lock.held none_owed shares (no_more lock.line.granted asks_granted);
   granted_alone = λ slot writer there all. alone slot writer there all;
   held_alone = λ all. (none_left lock.line.granted asks_granted (none_granted lock.line.free (total lock.line.granted) lock.held none_owed shares all), just_all lock.line.free (total lock.line.granted) lock.held none_owed shares all);
 }
   where
     asks_granted : Asks lock.line.granted
     asks_granted = all_of_first _ lock.line.granted (map entry_of lock.line.waiting) asks
+
+    within : (free : ℤ) (count granted held : ℕ) → pos 0 ≤ℤ free → free +ℤ pos (granted + held) ≡ pos max → count ≤ granted → count + held ≤ max
+    within free count granted held a b c = omega (arith, ints)
 
     none_granted : (free : ℤ) (granted held : ℕ) → pos 0 ≤ℤ free → free +ℤ pos (granted + held) ≡ pos max → max ≤ held → granted ≡ 0
     none_granted free granted held a b c = omega (arith, ints)

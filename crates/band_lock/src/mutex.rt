@@ -75,7 +75,8 @@ impl MutexState {
 
     /// Its one share as a semaphore, for its figures (own).
     pub fn semaphore(&self) -> &Semaphore
-        ensures { result.now ≡ self.now }
+        ensures share { result.now ≡ self.now }
+        ensures lock { IsLock 1 self.now }
     {
         &self.semaphore
     }

@@ -130,7 +130,8 @@ impl RwLockState {
 
     /// Its shares as a semaphore, for its figures (own).
     pub fn semaphore(&self) -> &Semaphore
-        ensures { result.now ≡ self.now.shares }
+        ensures shares { result.now ≡ self.now.shares }
+        ensures lock { IsLock self.now.max self.now.shares }
     {
         &self.semaphore
     }
@@ -196,6 +197,7 @@ impl RwLockState {
     pub fn drop_write<L: Ledger>(&mut self, a: WriteAccess, steps: &mut Steps<L>)
         requires number { a.of ≡ self.old.shares.number }
         requires held { a.count ≤ self.old.shares.held }
+        ensures some { 0 < a.count }
         ensures state { self.new ≡ record self.old { shares = record self.old.shares { line = give_back a.count self.old.shares.line; held = self.old.shares.held - a.count } } }
         ensures order { KeepsOrder self.old.shares.line self.new.shares.line }
         ensures lawful { IsLawful self.new.shares.line self.new.shares.held }
@@ -208,6 +210,7 @@ impl RwLockState {
     pub fn downgrade<L: Ledger>(&mut self, a: WriteAccess, steps: &mut Steps<L>) -> ReadAccess
         requires number { a.of ≡ self.old.shares.number }
         requires held { a.count ≤ self.old.shares.held }
+        ensures some { 0 < a.count }
         ensures access { result ≡ record { of = a.of; count = 1 } }
         ensures state { self.new ≡ record self.old { shares = record self.old.shares { line = give_back (a.count - 1) self.old.shares.line; held = self.old.shares.held - (a.count - 1) } } }
         ensures order { KeepsOrder self.old.shares.line self.new.shares.line }
@@ -284,6 +287,7 @@ impl WriteRequest {
     ) -> Result<Poll<WriteAccess>, PollError>
         requires number { self.old.of ≡ l.old.shares.number }
         requires own { IsOwn self.old.stage self.old.size l.old.shares.line }
+        ensures some { 0 < self.old.size }
         ensures polls { Polls self.old waker.0 l.old.shares result self.new l.new.shares }
         ensures max { l.new.max ≡ l.old.max }
         ensures order { KeepsOrder l.old.shares.line l.new.shares.line }

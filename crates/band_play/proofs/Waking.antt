@@ -46,6 +46,7 @@ same_lock max wakes sem is = record {
   none_owed = is.none_owed;
   shares = is.shares;
   each_asks = is.each_asks;
+  at_most = is.at_most;
   granted_alone = is.granted_alone;
   held_alone = is.held_alone;
 }

@@ -252,5 +252,6 @@ pub record Downgrades (name : List ℕ) (table table' : List ℕ → Option Thin
   pub writer : HoldingState
   pub was : held_as Write (table name) ≡ Ok writer
   pub at : place ≡ writer.of
+  pub some : 0 < writer.count
   pub becomes : Becomes writer.of old new (downgraded writer.count)
   pub updated : Updated table table' name (Some (things.Holding (record { mode = Read; of = writer.of; count = 1 })))

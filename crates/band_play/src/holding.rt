@@ -119,6 +119,7 @@ impl Holding {
         requires number { self.of ≡ object.old.number }
         requires held { self.count ≤ object.old.held }
         requires fits { Fits object.old.kind self.mode self.count }
+        ensures some { 0 < self.count }
         ensures reader { result ≡ record { mode = Read; of = self.of; count = 1 } }
         ensures state { object.new ≡ downgraded self.count object.old }
         ensures steady { IsSteady object.new }

@@ -83,6 +83,7 @@ returns g c =
       writer = writer;
       was = ap (held_as Write) was ∙ c.into_writer-writer.ensures;
       at = at;
+      some = c.downgrade_at-reader.ensures.some;
       becomes = record {
         before = sem;
         there = there;
