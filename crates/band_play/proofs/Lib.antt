@@ -19,11 +19,14 @@ pub mod NumberLemmas
 pub mod Numbers
 pub mod ObjectNames
 pub mod ObjectPermits
+pub mod Orderly
+pub mod Outcomes
 pub mod Parts
 pub mod Permits
 pub mod Permitting
 pub mod Requests
 pub mod Resized
+pub mod Sharing
 pub mod Sound
 pub mod Standing
 pub mod Statuses
