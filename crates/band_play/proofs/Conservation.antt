@@ -4,7 +4,7 @@ use Rattle.std.specs.List.{AllByRecursion, slice_get, slice_set}
 use Rattle.std.specs.Str.{bytes_eq}
 use Rattle.std.proofs.lemmas.Int.{ints}
 use Rattle.std.proofs.lemmas.Bool.{cond_both}
-use Rattle.band_balance.specs.Line.{Entry, drained, entry_named}
+use Rattle.band_balance.specs.Line.{drained, entry_named}
 use Rattle.band_balance.specs.Object.{Object, Turn, Kind, Mode, Permit, Lock, Read, Write, new_semaphore, new_mutex, new_reader_writer, ask, poll, drop, try_for, release, reduce, drain, status, forget, split, merge, downgrade, would_overflow, would_owe_too_much}
 use Rattle.band_balance.specs.Object as object
 use Rattle.band_sem.specs.declared.refusal.Refusal.{Refusal}
@@ -15,13 +15,13 @@ use Rattle.band_play.specs.declared.reply.Reply.{Reply}
 use Rattle.band_play.specs.declared.reply.Reply.TheVariants as replies
 use Rattle.band_play.specs.Player.{ForReaders}
 use Rattle.band_play.specs.State.{State, Named, Tag, is_tag, tag, permit_tag, Standing, Absent, AnObject, ARequest, AHolding, standing}
-use Rattle.band_play.specs.Step.{Outcome, refused, after_turn, turn_at, unless_taken, making, asking, polling, dropping, trying, releasing, reducing, draining, showing, same_mode, held_by, on_held, forgetting, splitting, downgrading, merging_held, merging, most_readers, step}
+use Rattle.band_play.specs.Step.{Outcome, refused, after_turn, turn_at, unless_taken, making, asking, polling, dropping, trying, releasing, reducing, draining, showing, held_by, on_held, forgetting, splitting, downgrading, merging_held, merging, most_readers, step}
 use Rattle.band_play.specs.Conservation.{object_named, permits_of, when_done, drained_by, size_of, size_in, held_of, brought, removed, brought_from, removed_from, state_from, brought_in, removed_in, state_after}
 use Rattle.band_play.proofs.Lists.{by_bool, cond_true, cond_false, at_set_same}
 use Rattle.band_play.proofs.ObjectNames.{NamesDiffer, holding_now, names_differ-set, names_differ-push, object_named-at, object_named-set_other, object_named-push_other, object_named-none, object_named-push, stands_at, absent_apart}
 use Rattle.band_play.proofs.ObjectPermits.{permits, kept-ask, kept-try_for, kept-poll, kept-drop, kept-status, kept-split, kept-merge, brought-release, removed-reduce, removed-drain, removed-forget}
 use Rattle.band_play.proofs.Orderly.{AllInOrder, in_order_at, keeps-step}
-use Rattle.band_play.proofs.Outcomes.{modes_same, for_turn, for_turn_here, for_new, for_live, for_object, for_mode, for_held}
+use Rattle.band_play.proofs.Outcomes.{modes_same, for_turn, for_new, for_live, for_object, for_mode, for_held}
 use Rattle.band_play.proofs.Sharing.{kept-downgrade}
 use Rattle.band_play.proofs.Standing.{same_bytes}
 use Rattle.band_play.proofs.Turns.{tags_apart}

@@ -5,6 +5,7 @@ pub mod Change
 pub mod Conservation
 pub mod Devices
 pub mod Distinct
+pub mod Excluding
 pub mod Follow
 pub mod Givens
 pub mod Goings

@@ -1,11 +1,11 @@
 -- Each call keeps the objects of a state in order.
-use Rattle.std.proofs.Common.{◌≡◌, ℕ, ◌-◌, ◌^◌, ◌<◌, ◌==◌, Bool, true, false, cond, List, [], ◌∷◌, ◌++◌, Option, Some, None, refl, sym, ap, ◌∙◌, arith}
+use Rattle.std.proofs.Common.{◌≡◌, ℕ, ◌<◌, ◌==◌, Bool, true, false, cond, List, [], ◌∷◌, ◌++◌, Option, Some, None, refl, sym, ap, ◌∙◌, arith}
 use Rattle.std.specs.List.{AllByRecursion, slice_get}
 use Rattle.std.specs.Str.{bytes_eq}
 use Rattle.std.proofs.lemmas.Bool.{cond_both, true≢false}
 use Rattle.band_balance.specs.Line.{Entry, entry_named}
 use Rattle.std.specs.Prelude.{nat_le}
-use Rattle.band_balance.specs.Object.{Object, Turn, Kind, Semaphore, Mutex, ReaderWriter, Mode, Permit, Lock, Read, Write, size_of, new_semaphore, new_mutex, new_reader_writer, ask, poll, drop, try_for, release, reduce, drain, status, forget, split, split_of, merge, merge_of, downgrade, would_overflow, would_owe_too_much}
+use Rattle.band_balance.specs.Object.{Object, Turn, Kind, Mode, Permit, Lock, Read, Write, size_of, new_semaphore, new_mutex, new_reader_writer, ask, poll, drop, try_for, release, reduce, drain, status, forget, split, split_of, merge, merge_of, downgrade, would_overflow, would_owe_too_much}
 use Rattle.band_sem.specs.declared.refusal.Refusal.{Refusal}
 use Rattle.band_sem.specs.declared.refusal.Refusal.TheVariants as refusals
 use Rattle.band_play.specs.declared.call.Call.{Call}

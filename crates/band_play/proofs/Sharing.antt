@@ -1,15 +1,15 @@
 -- Locks: what is free, granted and held of one adds up, nothing is owed, and each entry has the size of its mode.
-use Rattle.std.proofs.Common.{◌≡◌, ℕ, ◌+◌, ◌-◌, ◌==◌, ◌<◌, ◌≤◌, ◌||◌, ◌&&◌, Bool, true, false, cond, List, [], ◌∷◌, ◌++◌, map, Option, Some, None, ℤ, pos, ◌+ℤ◌, ◌-ℤ◌, ◌≤ℤ◌, int_le, refl, sym, ap, ◌∙◌, arith}
+use Rattle.std.proofs.Common.{◌≡◌, ℕ, ◌+◌, ◌-◌, ◌==◌, ◌<◌, ◌||◌, ◌&&◌, Bool, true, false, List, [], ◌∷◌, ◌++◌, map, Option, Some, None, ℤ, pos, ◌+ℤ◌, ◌-ℤ◌, ◌≤ℤ◌, int_le, refl, sym, ap, ◌∙◌, arith}
 use Rattle.std.specs.List.{AllByRecursion}
 use Rattle.std.proofs.lemmas.Int.{ints}
-use Rattle.std.proofs.lemmas.Bool.{cond_both, true≢false}
+use Rattle.std.proofs.lemmas.Bool.{cond_both}
 use Rattle.std.proofs.lemmas.Option.{same_Some, none-some}
-use Rattle.band_balance.specs.Line.{Entry, Waiting, Line, requests, total, entry_of, entry_named, without, nobody_waits, is_served, take_permits, join, give_back, cancel, withdraw, settle, settle_from, poll_granted, poll_waiting}
+use Rattle.band_balance.specs.Line.{Entry, Waiting, Line, total, entry_of, entry_named, without, nobody_waits, is_served, take_permits, join, give_back, cancel, withdraw, settle, settle_from, poll_granted, poll_waiting}
 use Rattle.band_balance.specs.Object.{Object, Kind, Semaphore, Mutex, ReaderWriter, Mode, Permit, Lock, Read, Write, Turn, Answer, Done, Ready, Pending, Nothing, size_of, turn, hold, ask, poll, poll_of, drop, drop_of, try_for, status, replace, downgrade, downgrade_of}
 use Rattle.band_balance.proofs.Rename.{all_of_first, all_of_both}
 use Rattle.band_balance.proofs.Settle.{total-append, total-cons, total-without, free-total-give_back, free-total-cancel}
 use Rattle.band_balance.proofs.Requests.{all-requests-give_back, all-requests-cancel, all-requests-join, all-requests-poll_granted, all-requests-poll_waiting, all-without, all-found}
-use Rattle.band_play.specs.State.{Tag, tag, is_tag}
+use Rattle.band_play.specs.State.{Tag, tag}
 use Rattle.band_play.specs.Step.{is_of, same_mode}
 use Rattle.band_play.proofs.Lists.{by_bool, cond_true, cond_false}
 use Rattle.band_play.proofs.ObjectPermits.{permits, total-hold}
