@@ -46,9 +46,9 @@ module _ {N : Type 0} where
       let sum : total (e ∷ es) ≡ e.size + total es = total-cons e es in (
         (λ has_all. is ∙ only before e es (none_left before asks_before (omega arith)) (none_left es asks.1 (omega arith))),
         each_alone most all (before ++ e ∷ []) es (is ∙ sym (append_assoc before (e ∷ []) es)) (all_of_both _ before (e ∷ []) asks_before (asks.0, tt)) asks.1
-        (let grown : total (before ++ e ∷ []) ≡ total before + total (e ∷ []) = total-append before (e ∷ []) in
-        let one : total (e ∷ []) ≡ e.size + 0 = total-cons e [] in
-        omega arith),
+            (let grown : total (before ++ e ∷ []) ≡ total before + total (e ∷ []) = total-append before (e ∷ []) in
+            let one : total (e ∷ []) ≡ e.size + 0 = total-cons e [] in
+            omega arith),
       )
 
 -- what is granted and held of a lock: each is in order and asks for something, and together they have no more than there is

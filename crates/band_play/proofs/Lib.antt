@@ -25,6 +25,7 @@ pub mod Outcomes
 pub mod Parts
 pub mod Permits
 pub mod Permitting
+pub mod ReaderCalls
 pub mod Requests
 pub mod Resized
 pub mod Sharing
