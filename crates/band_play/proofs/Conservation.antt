@@ -5,23 +5,28 @@ use Rattle.std.specs.Str.{bytes_eq}
 use Rattle.std.proofs.lemmas.Int.{ints}
 use Rattle.std.proofs.lemmas.Bool.{cond_both}
 use Rattle.band_balance.specs.Line.{drained, entry_named}
-use Rattle.band_balance.specs.Object.{Object, Turn, Kind, Semaphore, Mutex, ReaderWriter, new_semaphore, ask, poll, drop, try_for, release, reduce, drain, status, forget, split, merge, would_overflow, would_owe_too_much}
+use Rattle.band_balance.specs.Object.{Object, Turn, Kind, Mode, Permit, Lock, Read, Write, new_semaphore, new_mutex, new_reader_writer, ask, poll, drop, try_for, release, reduce, drain, status, forget, split, merge, downgrade, would_overflow, would_owe_too_much}
+use Rattle.band_balance.specs.Object as object
 use Rattle.band_sem.specs.declared.refusal.Refusal.{Refusal}
 use Rattle.band_sem.specs.declared.refusal.Refusal.TheVariants as refusals
 use Rattle.band_play.specs.declared.call.Call.{Call}
 use Rattle.band_play.specs.declared.call.Call.TheVariants as calls
 use Rattle.band_play.specs.declared.reply.Reply.{Reply}
 use Rattle.band_play.specs.declared.reply.Reply.TheVariants as replies
-use Rattle.band_play.specs.State.{State, Named, Tag, is_tag, permit_tag, Standing, Absent, AnObject, ARequest, AHolding, standing}
-use Rattle.band_play.specs.Step.{Outcome, refused, after_turn, turn_of, turn_at, unless_taken, making, on_kind, with_semaphore, on_semaphore, calling, calling_semaphore, asking, polling, dropping, trying, releasing, reducing, draining, showing, on_permit, forgetting, splitting, unless_absent, merging_held, merging, step}
+use Rattle.band_play.specs.Player.{ForReaders}
+use Rattle.band_play.specs.State.{State, Named, Tag, is_tag, tag, permit_tag, Standing, Absent, AnObject, ARequest, AHolding, standing}
+use Rattle.band_play.specs.Step.{Outcome, refused, after_turn, turn_at, unless_taken, making, asking, polling, dropping, trying, releasing, reducing, draining, showing, held_by, on_held, forgetting, splitting, downgrading, merging_held, merging, most_readers, step}
 use Rattle.band_play.specs.Conservation.{object_named, permits_of, when_done, drained_by, size_of, size_in, held_of, brought, removed, brought_from, removed_from, state_from, brought_in, removed_in, state_after}
 use Rattle.band_play.proofs.Lists.{by_bool, cond_true, cond_false, at_set_same}
 use Rattle.band_play.proofs.ObjectNames.{NamesDiffer, holding_now, names_differ-set, names_differ-push, object_named-at, object_named-set_other, object_named-push_other, object_named-none, object_named-push, stands_at, absent_apart}
 use Rattle.band_play.proofs.ObjectPermits.{permits, kept-ask, kept-try_for, kept-poll, kept-drop, kept-status, kept-split, kept-merge, brought-release, removed-reduce, removed-drain, removed-forget}
+use Rattle.band_play.proofs.Orderly.{AllInOrder, in_order_at, keeps-step}
+use Rattle.band_play.proofs.Outcomes.{modes_same, for_turn, for_new, for_live, for_object, for_mode, for_held}
+use Rattle.band_play.proofs.Sharing.{kept-downgrade}
 use Rattle.band_play.proofs.Standing.{same_bytes}
 use Rattle.band_play.proofs.Turns.{tags_apart}
 
--- Sums where nothing comes or goes, of two steps in a row, of a new semaphore, and of no object.
+-- Sums where nothing comes or goes, of two steps in a row, of a new object, and of no object.
 unmoved : (before after : ℤ) → after ≡ before → after +ℤ pos 0 ≡ before +ℤ pos 0
 unmoved before after e = omega (arith, ints)
 
@@ -29,8 +34,11 @@ chained : (before between after : ℤ) (came gone came' gone' : ℕ) → between
     → after +ℤ pos (gone + gone') ≡ before +ℤ pos (came + came')
 chained before between after came gone came' gone' e k = omega (arith, ints)
 
-made_with : (n : ℕ) → pos n +ℤ pos 0 +ℤ pos 0 ≡ pos 0 +ℤ pos n
+made_with : (n : ℕ) → pos n +ℤ pos 0 ≡ pos n
 made_with n = omega (arith, ints)
+
+brought_new : (sum : ℤ) (n : ℕ) → sum ≡ pos n → sum +ℤ pos 0 ≡ pos 0 +ℤ pos n
+brought_new sum n e = omega (arith, ints)
 
 from_nothing : (n : ℕ) → pos 0 +ℤ pos n ≡ pos n
 from_nothing n = omega (arith, ints)
@@ -72,57 +80,8 @@ module _ (name : List ℕ) (state : State) (differ : NamesDiffer state) where
     balances-still : permits t.object ≡ permits named.object → Balances name state 0 0 (after_turn place named state t)
     balances-still same = balances-turn 0 0 (λ h. unmoved (permits named.object) (permits t.object) same) (λ h. refl)
 
--- What holds of each refusal, and of the calls that aren't refused, holds of every outcome.
-module _ (state : State) (P : Outcome → Type 0) (refusing : (refusal : Refusal) → P (refused refusal state)) where
-  for_turn_of : (found : Option Named) (place : ℕ) (call : Object Tag → Turn Tag)
-      → ((named : Named) → found ≡ Some named → P (after_turn place named state (call named.object))) → P (turn_of found place call state)
-  for_turn_of None place call p = refusing refusals.Unknown
-  for_turn_of (Some named) place call p = p named refl
-
-  for_turn : (place : ℕ) (call : Object Tag → Turn Tag)
-      → ((named : Named) → slice_get state place ≡ Some named → P (after_turn place named state (call named.object))) → P (turn_at place call state)
-  for_turn place call p = for_turn_of (slice_get state place) place call p
-
-  for_new : (made : Standing) (outcome : Outcome) → (made ≡ Absent → P outcome) → P (unless_taken made outcome state)
-  for_new Absent outcome p = p refl
-  for_new (AnObject place) outcome p = refusing refusals.Taken
-  for_new (ARequest place) outcome p = refusing refusals.Taken
-  for_new (AHolding place) outcome p = refusing refusals.Taken
-
-  for_live : (named : Standing) (outcome : Outcome) → P outcome → P (unless_absent named outcome state)
-  for_live Absent outcome p = refusing refusals.Unknown
-  for_live (AnObject place) outcome p = p
-  for_live (ARequest place) outcome p = p
-  for_live (AHolding place) outcome p = p
-
-  for_kind : (kind : Kind) (outcome : Outcome) → P outcome → P (on_kind kind outcome state)
-  for_kind Semaphore outcome p = p
-  for_kind Mutex outcome p = refusing refusals.Kind
-  for_kind (ReaderWriter max) outcome p = refusing refusals.Kind
-
-  for_found : (found : Option Named) (call : Object Tag → Outcome) → ((semaphore : Object Tag) → P (call semaphore)) → P (with_semaphore found call state)
-  for_found None call p = refusing refusals.Unknown
-  for_found (Some named) call p = for_kind named.object.kind (call named.object) (p named.object)
-
-  for_object : (of : Standing) (call : ℕ → Outcome) → ((place : ℕ) → of ≡ AnObject place → P (call place)) → P (calling of call state)
-  for_object Absent call p = refusing refusals.Unknown
-  for_object (AnObject place) call p = p place refl
-  for_object (ARequest place) call p = refusing refusals.Kind
-  for_object (AHolding place) call p = refusing refusals.Kind
-
-  for_semaphore : (of : Standing) (call : ℕ → Object Tag → Outcome)
-      → ((place : ℕ) (semaphore : Object Tag) → of ≡ AnObject place → P (call place semaphore)) → P (calling_semaphore of call state)
-  for_semaphore of call p =
-      for_object of (λ place. on_semaphore place (call place) state) (λ place is. for_found (slice_get state place) (call place) (λ semaphore. p place semaphore is))
-
-  for_permit : (permit : Standing) (call : ℕ → Outcome) → ((place : ℕ) → permit ≡ AHolding place → P (call place)) → P (on_permit permit call state)
-  for_permit Absent call p = refusing refusals.Unknown
-  for_permit (AnObject place) call p = refusing refusals.Kind
-  for_permit (ARequest place) call p = refusing refusals.Kind
-  for_permit (AHolding place) call p = for_found (slice_get state place) (λ semaphore. call place) (λ semaphore. p place refl)
-
 -- Each call balances.
-module _ (name : List ℕ) (state : State) (differ : NamesDiffer state) where
+module _ (name : List ℕ) (state : State) (differ : NamesDiffer state) (all : AllInOrder state) where
   -- the calls that only move permits
   abbrev Still : Outcome → Type 0
   Still outcome = Balances name state 0 0 outcome
@@ -135,17 +94,17 @@ module _ (name : List ℕ) (state : State) (differ : NamesDiffer state) where
       for_turn state Still refused_still place call
       (λ named at. balances-still name state differ place named at (call named.object) (kept named.object))
 
-  balances-ask : (of : Standing) (made : List ℕ) (n waker : ℕ) → Still (asking of made n waker state)
-  balances-ask of made n waker =
-      for_semaphore state Still refused_still of (λ place semaphore. unless_taken (standing made state) (turn_at place (ask (permit_tag made) n waker) state) state)
-      (λ place semaphore is. for_new state Still refused_still (standing made state) (turn_at place (ask (permit_tag made) n waker) state)
-      (λ absent. turn_still place (ask (permit_tag made) n waker) (kept-ask (permit_tag made) n waker)))
+  balances-ask : (mode : Mode) (size : object.Kind → ℕ) (of : Standing) (made : List ℕ) (waker : ℕ) → Still (asking mode size of made waker state)
+  balances-ask mode size of made waker =
+      for_mode state Still refused_still mode of (λ place object. unless_taken (standing made state) (turn_at place (ask (tag mode made) (size object.kind) waker) state) state)
+      (λ place named is at asked. for_new state Still refused_still (standing made state) (turn_at place (ask (tag mode made) (size named.object.kind) waker) state)
+      (λ absent. turn_still place (ask (tag mode made) (size named.object.kind) waker) (kept-ask (tag mode made) (size named.object.kind) waker)))
 
-  balances-try : (of : Standing) (made : List ℕ) (n : ℕ) → Still (trying of made n state)
-  balances-try of made n =
-      for_semaphore state Still refused_still of (λ place semaphore. unless_taken (standing made state) (turn_at place (try_for (permit_tag made) n) state) state)
-      (λ place semaphore is. for_new state Still refused_still (standing made state) (turn_at place (try_for (permit_tag made) n) state)
-      (λ absent. turn_still place (try_for (permit_tag made) n) (kept-try_for (permit_tag made) n)))
+  balances-try : (mode : Mode) (size : object.Kind → ℕ) (of : Standing) (made : List ℕ) → Still (trying mode size of made state)
+  balances-try mode size of made =
+      for_mode state Still refused_still mode of (λ place object. unless_taken (standing made state) (turn_at place (try_for (tag mode made) (size object.kind)) state) state)
+      (λ place named is at asked. for_new state Still refused_still (standing made state) (turn_at place (try_for (tag mode made) (size named.object.kind)) state)
+      (λ absent. turn_still place (try_for (tag mode made) (size named.object.kind)) (kept-try_for (tag mode made) (size named.object.kind))))
 
   balances-poll : (request : Standing) (called : List ℕ) (waker : ℕ) → Still (polling request called waker state)
   balances-poll Absent called waker = refused_still refusals.Unknown
@@ -164,8 +123,8 @@ module _ (name : List ℕ) (state : State) (differ : NamesDiffer state) where
 
   balances-split : (permit : Standing) (called made : List ℕ) (n : ℕ) → Still (splitting permit called made n state)
   balances-split permit called made n =
-      for_permit state Still refused_still permit (λ place. unless_taken (standing made state) (turn_at place (split (is_tag called) (permit_tag made) n) state) state)
-      (λ place is. for_new state Still refused_still (standing made state) (turn_at place (split (is_tag called) (permit_tag made) n) state)
+      for_held state Still refused_still Permit permit called (λ place. unless_taken (standing made state) (turn_at place (split (is_tag called) (permit_tag made) n) state) state)
+      (λ place entry is there same. for_new state Still refused_still (standing made state) (turn_at place (split (is_tag called) (permit_tag made) n) state)
       (λ absent. turn_still place (split (is_tag called) (permit_tag made) n) (kept-split (is_tag called) (permit_tag made) n)))
 
   balances-merging_held : (place other : ℕ) (kept spent : List ℕ) → Still (merging_held place other kept spent state)
@@ -179,9 +138,17 @@ module _ (name : List ℕ) (state : State) (differ : NamesDiffer state) where
   balances-merge : (first second : Standing) (kept spent : List ℕ) → Still (merging first second kept spent state)
   balances-merge first second kept spent =
       for_live state Still refused_still first _ (for_live state Still refused_still second _
-      (for_permit state Still refused_still first (λ place. on_permit second (λ other. merging_held place other kept spent state) state)
-      (λ place is. for_permit state Still refused_still second (λ other. merging_held place other kept spent state)
-      (λ other also. balances-merging_held place other kept spent))))
+      (for_held state Still refused_still Permit first kept (λ place. on_held Permit second spent (λ other. merging_held place other kept spent state) state)
+      (λ place entry is there same. for_held state Still refused_still Permit second spent (λ other. merging_held place other kept spent state)
+      (λ other more also there_too same_too. balances-merging_held place other kept spent))))
+
+  balances-downgrade : (writer : Standing) (called : List ℕ) → Still (downgrading writer called state)
+  balances-downgrade writer called =
+      for_held state Still refused_still Write writer called (λ place. turn_at place (downgrade (is_tag called) (tag Read called)) state)
+      (λ place entry is there same. for_turn state Still refused_still place (downgrade (is_tag called) (tag Read called))
+      (λ named at. balances-still name state differ place named at (downgrade (is_tag called) (tag Read called) named.object)
+      (kept-downgrade named.object (in_order_at state all place named at) (is_tag called) called entry (ap (held_by called) (sym at) ∙ there)
+      (sym (modes_same Write entry.name.mode same)))))
 
   -- The calls that bring permits to the object that is called, or take some from it.
   module _ (of : List ℕ) (place : ℕ) (named : Named) (is : standing of state ≡ AnObject place) (at : slice_get state place ≡ Some named) where
@@ -228,26 +195,26 @@ module _ (name : List ℕ) (state : State) (differ : NamesDiffer state) where
 
   balances-release : (of : List ℕ) (n : ℕ) → Comes of n (releasing (standing of state) n state)
   balances-release of n =
-      for_semaphore state (Comes of n) (refused_comes of n) (standing of state)
+      for_mode state (Comes of n) (refused_comes of n) Permit (standing of state)
       (λ place semaphore. cond (would_overflow n semaphore) (refused refusals.Overflow state) (turn_at place (release n) state))
-      (λ place semaphore is. cond_both (would_overflow n semaphore) _ _ (Comes of n)
+      (λ place called is at_called asked. cond_both (would_overflow n called.object) _ _ (Comes of n)
       (λ over. refused_comes of n refusals.Overflow)
       (λ fits. for_turn state (Comes of n) (refused_comes of n) place (release n)
       (λ named at. comes of place named is at n (release n named.object) (brought-release n named.object))))
 
   balances-reduce : (of : List ℕ) (n : ℕ) → Goes of (done_with n) (reducing (standing of state) n state)
   balances-reduce of n =
-      for_semaphore state (Goes of (done_with n)) (refused_goes of n) (standing of state)
+      for_mode state (Goes of (done_with n)) (refused_goes of n) Permit (standing of state)
       (λ place semaphore. cond (would_owe_too_much n semaphore) (refused refusals.Debt state) (turn_at place (reduce n) state))
-      (λ place semaphore is. cond_both (would_owe_too_much n semaphore) _ _ (Goes of (done_with n))
+      (λ place called is at_called asked. cond_both (would_owe_too_much n called.object) _ _ (Goes of (done_with n))
       (λ over. refused_goes of n refusals.Debt)
       (λ fits. for_turn state (Goes of (done_with n)) (refused_goes of n) place (reduce n)
       (λ named at. goes of place named is at n (reduce n named.object) (removed-reduce n named.object))))
 
   balances-drain : (of : List ℕ) (n : ℕ) → Goes of drained_by (draining (standing of state) n state)
   balances-drain of n =
-      for_semaphore state (Goes of drained_by) (refused_drains of) (standing of state) (λ place semaphore. turn_at place (drain n) state)
-      (λ place semaphore is. for_turn state (Goes of drained_by) (refused_drains of) place (drain n)
+      for_mode state (Goes of drained_by) (refused_drains of) Permit (standing of state) (λ place semaphore. turn_at place (drain n) state)
+      (λ place called is at_called asked. for_turn state (Goes of drained_by) (refused_drains of) place (drain n)
       (λ named at. goes of place named is at (drained n named.object.line) (drain n named.object) (removed-drain n named.object)))
 
   -- A forgotten permit takes its size from the object that it is held of.
@@ -264,8 +231,8 @@ module _ (name : List ℕ) (state : State) (differ : NamesDiffer state) where
 
   balances-forget : (permit : List ℕ) → Forgets permit (forgetting (standing permit state) permit state)
   balances-forget permit =
-      for_permit state (Forgets permit) (refused_forgets permit) (standing permit state) (λ place. turn_at place (forget (is_tag permit)) state)
-      (λ place is. for_turn state (Forgets permit) (refused_forgets permit) place (forget (is_tag permit))
+      for_held state (Forgets permit) (refused_forgets permit) Permit (standing permit state) permit (λ place. turn_at place (forget (is_tag permit)) state)
+      (λ place entry is there same. for_turn state (Forgets permit) (refused_forgets permit) place (forget (is_tag permit))
       (λ named at.
       let size = size_of (entry_named (is_tag permit) named.object.held) in
       let held = held_there permit place named is at in
@@ -275,23 +242,21 @@ module _ (name : List ℕ) (state : State) (differ : NamesDiffer state) where
       ∙ removed-forget (is_tag permit) named.object)
       (λ h. held ∙ cond_false (bytes_eq name named.name) size 0 h)))
 
-  -- A new semaphore brings what it is made with.
-  abbrev new_named : List ℕ → ℕ → Named
-  new_named made n = record { name = made; object = new_semaphore n }
-
-  balances-sem : (made : List ℕ) (n : ℕ) → Comes made n (making made (new_semaphore n) state)
-  balances-sem made n =
-      for_new state (Comes made n) (refused_comes made n) (standing made state) (record { reply = replies.Done; woken = []; state = state ++ new_named made n ∷ [] })
+  -- A new object brings what it is made with.
+  balances-new : (made : List ℕ) (new_object : Object Tag) (n : ℕ) → permits new_object ≡ pos n → Comes made n (making made new_object state)
+  balances-new made new_object n made_of =
+      for_new state (Comes made n) (refused_comes made n) (standing made state)
+      (record { reply = replies.Done; woken = []; state = state ++ record { name = made; object = new_object } ∷ [] })
       (λ absent.
-      let new : Named = new_named made n in
+      let new : Named = record { name = made; object = new_object } in
       let fresh = absent_apart made 0 state absent in
       record {
         sum = by_bool (bytes_eq name made)
             (λ h.
             let unused = subst (λ (x : List ℕ). AllByRecursion (λ (o : Named). bytes_eq x o.name ≡ false) state) (sym (same_bytes name made h)) fresh in
             let unknown : object_named name state ≡ None = object_named-none name state unused in
-            let known : object_named name (state ++ new ∷ []) ≡ Some (new_semaphore n) = object_named-push name state new unused h in
-            ap (λ (o : Option (Object Tag)). permits_of o +ℤ pos 0) known ∙ made_with n
+            let known : object_named name (state ++ new ∷ []) ≡ Some new_object = object_named-push name state new unused h in
+            ap (λ (o : Option (Object Tag)). permits_of o +ℤ pos 0) known ∙ brought_new (permits new_object) n made_of
             ∙ sym (ap₂ (λ (o : Option (Object Tag)) k. permits_of o +ℤ pos k) unknown (cond_true (bytes_eq name made) n 0 h)))
             (λ h. ap₂ (λ (o : Option (Object Tag)) k. permits_of o +ℤ pos k) (object_named-push_other name state new h) (sym (cond_false (bytes_eq name made) n 0 h)));
         differ = names_differ-push state new differ fresh;
@@ -299,31 +264,41 @@ module _ (name : List ℕ) (state : State) (differ : NamesDiffer state) where
 
   -- whichever it is
   balances-step : (call : Call) → Balances name state (brought name call (step call state).reply) (removed name call (step call state).reply state) (step call state)
-  balances-step (calls.Sem made n) = balances-sem made n
-  balances-step (calls.Ask made of n waker) = balances-ask (standing of state) made n waker
+  balances-step (calls.Sem made n) = balances-new made (new_semaphore n) n (made_with n)
+  balances-step (calls.Mutex made) = balances-new made new_mutex 1 (made_with 1)
+  balances-step (calls.Rw made n) = balances-new made (new_reader_writer (most_readers n)) (most_readers n) (made_with (most_readers n))
+  balances-step (calls.Ask made of n waker) = balances-ask Permit (λ kind. n) (standing of state) made waker
+  balances-step (calls.Lock made of waker) = balances-ask Lock (λ kind. object.size_of kind Lock) (standing of state) made waker
+  balances-step (calls.Read made of waker) = balances-ask Read (λ kind. object.size_of kind Read) (standing of state) made waker
+  balances-step (calls.Write made of waker) = balances-ask Write (λ kind. object.size_of kind Write) (standing of state) made waker
   balances-step (calls.Poll called waker) = balances-poll (standing called state) called waker
   balances-step (calls.Drop called) = balances-drop (standing called state) called
-  balances-step (calls.Try made of n) = balances-try (standing of state) made n
+  balances-step (calls.Try made of n) = balances-try Permit (λ kind. n) (standing of state) made
+  balances-step (calls.TryLock made of) = balances-try Lock (λ kind. object.size_of kind Lock) (standing of state) made
+  balances-step (calls.TryRead made of) = balances-try Read (λ kind. object.size_of kind Read) (standing of state) made
+  balances-step (calls.TryWrite made of) = balances-try Write (λ kind. object.size_of kind Write) (standing of state) made
   balances-step (calls.Release of n) = balances-release of n
   balances-step (calls.Reduce of n) = balances-reduce of n
   balances-step (calls.Drain of n) = balances-drain of n
   balances-step (calls.Forget called) = balances-forget called
   balances-step (calls.Split called made n) = balances-split (standing called state) called made n
   balances-step (calls.Merge kept spent) = balances-merge (standing kept state) (standing spent state) kept spent
+  balances-step (calls.Downgrade called) = balances-downgrade (standing called state) called
   balances-step (calls.Status called) = balances-status (standing called state)
 
--- Calls in a row balance too, from a state whose names differ, and from the empty one.
-conserved_from : (calls : List Call) (name : List ℕ) (state : State) → NamesDiffer state
+-- Calls in a row balance too, from a state whose names differ and whose objects are in order, and from the empty one.
+conserved_from : (calls : List Call) → AllByRecursion ForReaders calls → (name : List ℕ) (state : State) → NamesDiffer state → AllInOrder state
     → permits_of (object_named name (state_from state calls)) +ℤ pos (removed_from name state calls) ≡ permits_of (object_named name state) +ℤ pos (brought_from name state calls)
-conserved_from [] name state differ = refl
-conserved_from (call ∷ rest) name state differ =
-    let first = balances-step name state differ call in
+conserved_from [] for name state differ all = refl
+conserved_from (call ∷ rest) for name state differ all =
+    let first = balances-step name state differ all call in
     let after = (step call state).state in
     let reply = (step call state).reply in
     chained (permits_of (object_named name state)) (permits_of (object_named name after)) (permits_of (object_named name (state_from after rest)))
     (brought name call reply) (removed name call reply state) (brought_from name after rest) (removed_from name after rest)
     first.sum
-    (conserved_from rest name after first.differ)
+    (conserved_from rest for.1 name after first.differ (keeps-step state all call for.0))
 
-pub conserved : (calls : List Call) (name : List ℕ) → permits_of (object_named name (state_after calls)) +ℤ pos (removed_in name calls) ≡ pos (brought_in name calls)
-conserved calls name = conserved_from calls name [] tt ∙ from_nothing (brought_in name calls)
+pub conserved : (calls : List Call) → AllByRecursion ForReaders calls → (name : List ℕ)
+    → permits_of (object_named name (state_after calls)) +ℤ pos (removed_in name calls) ≡ pos (brought_in name calls)
+conserved calls for name = conserved_from calls for name [] tt tt ∙ from_nothing (brought_in name calls)

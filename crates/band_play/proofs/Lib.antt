@@ -6,6 +6,7 @@ pub mod Conservation
 pub mod Devices
 pub mod Distinct
 pub mod Downgrading
+pub mod Excluding
 pub mod Follow
 pub mod Givens
 pub mod Goings
@@ -20,12 +21,16 @@ pub mod NumberLemmas
 pub mod Numbers
 pub mod ObjectNames
 pub mod ObjectPermits
+pub mod Orderly
+pub mod Outcomes
 pub mod Parts
 pub mod Permits
 pub mod Permitting
+pub mod ReaderCalls
 pub mod Replaced
 pub mod Requests
 pub mod Resized
+pub mod Sharing
 pub mod Sound
 pub mod Standing
 pub mod Starting

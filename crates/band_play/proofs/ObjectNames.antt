@@ -18,17 +18,17 @@ NamesDiffer [] = Unit {0}
 NamesDiffer (first ∷ rest) = AllByRecursion (λ (later : Named). bytes_eq first.name later.name ≡ false) rest × NamesDiffer rest
 
 -- what holds of each holds at a place, and after one element is replaced or comes
-each_at : {A : Type 0} (P : A → Type 0) (xs : List A) (k : ℕ) (x : A) → AllByRecursion P xs → slice_get xs k ≡ Some x → P x
+pub each_at : {A : Type 0} (P : A → Type 0) (xs : List A) (k : ℕ) (x : A) → AllByRecursion P xs → slice_get xs k ≡ Some x → P x
 each_at P [] k x each at = absurd (none-some x at)
 each_at P (y ∷ ys) zero x each at = subst P (same_Some y x at) each.0
 each_at P (y ∷ ys) (suc k) x each at = each_at P ys k x each.1 at
 
-each_set : {A : Type 0} (P : A → Type 0) (xs : List A) (k : ℕ) (x : A) → AllByRecursion P xs → P x → AllByRecursion P (slice_set xs k x)
+pub each_set : {A : Type 0} (P : A → Type 0) (xs : List A) (k : ℕ) (x : A) → AllByRecursion P xs → P x → AllByRecursion P (slice_set xs k x)
 each_set P [] k x each p = tt
 each_set P (y ∷ ys) zero x each p = (p, each.1)
 each_set P (y ∷ ys) (suc k) x each p = (each.0, each_set P ys k x each.1 p)
 
-each_push : {A : Type 0} (P : A → Type 0) (xs : List A) (x : A) → AllByRecursion P xs → P x → AllByRecursion P (xs ++ x ∷ [])
+pub each_push : {A : Type 0} (P : A → Type 0) (xs : List A) (x : A) → AllByRecursion P xs → P x → AllByRecursion P (xs ++ x ∷ [])
 each_push P [] x each p = (p, tt)
 each_push P (y ∷ ys) x each p = (each.0, each_push P ys x each.1 p)
 

@@ -42,7 +42,7 @@ module _ {N : Type 0} where
   permits object = object.line.free +ℤ pos (total object.line.granted + total object.held)
 
   -- one more is held
-  total-hold : (name : N) (n : ℕ) (held : List (Entry N)) → total (hold name n held) ≡ total held + n
+  pub total-hold : (name : N) (n : ℕ) (held : List (Entry N)) → total (hold name n held) ≡ total held + n
   total-hold name n held =
       let all = total-append held (record { name = name; size = n } ∷ []) in
       let one = total-cons (record { name = name; size = n }) [] in

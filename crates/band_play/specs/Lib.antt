@@ -1,4 +1,5 @@
 pub mod Conservation
+pub mod Exclusion
 pub mod Given
 pub mod Grammar
 pub mod Intake

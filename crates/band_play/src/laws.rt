@@ -1,10 +1,25 @@
 //! Laws of scripts.
+ghost use Rattle.std.specs.List.{AllByRecursion};
 ghost use Rattle.std.specs.Prelude.{◌≡◌, List, ℕ, pos, ◌+ℤ◌};
 ghost use Rattle.band_play.specs.declared.call.Call.{Call as TheCall};
+ghost use Rattle.band_play.specs.Player.{ForReaders};
+ghost use Rattle.band_play.specs.Script.{calls_of};
+ghost use Rattle.band_play.specs.State.{Named};
+ghost use Rattle.band_play.specs.Exclusion.{IsExclusive};
 ghost use Rattle.band_play.specs.Conservation.{permits_of, object_named, state_after, brought_in, removed_in};
 
 /// After any calls, what an object was made with and what was released to it is what is free, granted and held of it, and
 /// what was reduced, drained and forgotten.
 pub fn permits_are_kept()
-    ensures { (calls : List TheCall) (name : List ℕ) → permits_of (object_named name (state_after calls)) +ℤ pos (removed_in name calls) ≡ pos (brought_in name calls) }
+    ensures { (calls : List TheCall) → AllByRecursion ForReaders calls → (name : List ℕ) → permits_of (object_named name (state_after calls)) +ℤ pos (removed_in name calls) ≡ pos (brought_in name calls) }
+{}
+
+/// The calls of a script make locks for one reader at least.
+pub fn locks_are_for_readers()
+    ensures { (lines : List (List ℕ)) → AllByRecursion ForReaders (calls_of lines) }
+{}
+
+/// After any calls, a held or granted write excludes every other held or granted entry of its lock, and a mutex has at most one.
+pub fn writes_exclude()
+    ensures { (calls : List TheCall) → AllByRecursion ForReaders calls → AllByRecursion (λ (named : Named). IsExclusive named.object) (state_after calls) }
 {}

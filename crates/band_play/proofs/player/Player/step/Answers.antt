@@ -1,7 +1,7 @@
 use Rattle.band_play.proofs.player.Player.step.Goals as goal
 
 pub returns-in-Sem-clause-follows : goal.returns-in-Sem-clause-follows
-returns-in-Sem-clause-follows g c = rw c.in-Sem.is c.make_semaphore.ensures.follows
+returns-in-Sem-clause-follows g c = rw c.in-Sem.is c.make.ensures.follows
 
 pub returns-in-Ask-clause-follows : goal.returns-in-Ask-clause-follows
 returns-in-Ask-clause-follows g c = rw c.in-Ask.is c.ask.ensures.follows
