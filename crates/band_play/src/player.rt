@@ -1,6 +1,8 @@
 //! The player: one call after another on named objects.
 ghost use Rattle.std.proofs.Props.{props};
+ghost use Rattle.std.specs.Prelude.{◌≡◌};
 ghost use Rattle.band_play.specs.Kept.{IsSound};
+ghost use Rattle.band_play.specs.Step.{most_readers};
 
 use crate::object::{New, Want};
 use crate::table::Table;
@@ -17,6 +19,16 @@ pub struct Player {
     alloc: Global,
     table: Table,
     ghost sound: { IsSound table } by { Prim.hlevel props },
+}
+
+/// The most readers of a lock.
+fn most_readers(n: Option<u64>) -> u64
+    ensures { result ≡ most_readers n }
+{
+    match n {
+        None => MAX_READERS,
+        Some(n) => n,
+    }
 }
 
 impl Player {
@@ -53,7 +65,7 @@ impl Player {
             Call::Sem { made, n } => self.table.make(self.alloc, made, New::Semaphore(*n)),
             Call::Mutex { made } => self.table.make(self.alloc, made, New::Mutex),
             Call::Rw { made, n } => {
-                let max = n.unwrap_or(MAX_READERS);
+                let max = most_readers(*n);
                 self.table.make(self.alloc, made, New::ReaderWriter(max))
             }
             Call::Ask { made, of, n, waker } => {

@@ -35,3 +35,30 @@ returns-in-Split-clause-follows g c = rw c.in-Split.is c.split.ensures.follows
 
 pub returns-in-Merge-clause-follows : goal.returns-in-Merge-clause-follows
 returns-in-Merge-clause-follows g c = rw c.in-Merge.is c.merge.ensures.follows
+
+pub returns-in-Mutex-clause-follows : goal.returns-in-Mutex-clause-follows
+returns-in-Mutex-clause-follows g c = rw c.in-Mutex.is c.make-in-Mutex.ensures.follows
+
+pub returns-in-Lock-clause-follows : goal.returns-in-Lock-clause-follows
+returns-in-Lock-clause-follows g c = rw c.in-Lock.is c.ask-in-Lock.ensures.follows
+
+pub returns-in-Read-clause-follows : goal.returns-in-Read-clause-follows
+returns-in-Read-clause-follows g c = rw c.in-Read.is c.ask-in-Read.ensures.follows
+
+pub returns-in-Write-clause-follows : goal.returns-in-Write-clause-follows
+returns-in-Write-clause-follows g c = rw c.in-Write.is c.ask-in-Write.ensures.follows
+
+pub returns-in-TryLock-clause-follows : goal.returns-in-TryLock-clause-follows
+returns-in-TryLock-clause-follows g c = rw c.in-TryLock.is c.try_for-in-TryLock.ensures.follows
+
+pub returns-in-TryRead-clause-follows : goal.returns-in-TryRead-clause-follows
+returns-in-TryRead-clause-follows g c = rw c.in-TryRead.is c.try_for-in-TryRead.ensures.follows
+
+pub returns-in-TryWrite-clause-follows : goal.returns-in-TryWrite-clause-follows
+returns-in-TryWrite-clause-follows g c = rw c.in-TryWrite.is c.try_for-in-TryWrite.ensures.follows
+
+pub returns-in-Downgrade-clause-follows : goal.returns-in-Downgrade-clause-follows
+returns-in-Downgrade-clause-follows g c = rw c.in-Downgrade.is c.downgrade.ensures.follows
+
+pub returns-in-Rw-clause-follows : goal.returns-in-Rw-clause-follows
+returns-in-Rw-clause-follows g c = rw (c.in-Rw.is, ← c.most_readers-max.ensures) c.make-in-Rw.ensures.follows
