@@ -78,7 +78,7 @@ fn knock<L: Ledger>(sem: &mut Semaphore, waker: Waker, steps: &mut Steps<L>) -> 
     }
 }
 
-/// Two ask, the first gives up, and the second, by the waker that it left last, is woken and has its permit until it gives it back.
+/// Two ask, the first gives up, and the second is woken by the waker that it left last, and has its permit.
 fn first_gives_up<L: Ledger, R: Abort>(rt: &R, alloc: Global, blank: Blank)
     requires name { blank.name ≡ L.name }
     requires parts { blank.parts ≡ L.parts }
@@ -246,12 +246,12 @@ fn comes_and_goes<L: Ledger, R: Abort>(rt: &R, alloc: Global, blank: Blank)
 {
     let mut steps: Steps<L> = Steps::new(blank);
     let mut sem = Semaphore::new(alloc, 5, 1);
-    assert_eq!(rt; sem.number(), 5);
     adds(rt, &mut sem, 2, &mut steps);
     assert_eq!(rt; sem.available_permits(), 3);
     let mut permit = takes(rt, &mut sem, 2);
     adds(rt, &mut sem, 2, &mut steps);
     assert_eq!(rt; sem.available_permits(), 3);
+    assert_eq!(rt; sem.number(), 5);
     misses(rt, &mut sem, 4);
     splits_and_merges(rt, &mut permit, 1);
     splits_no_more(rt, &mut permit, 3);
