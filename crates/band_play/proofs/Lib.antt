@@ -24,6 +24,7 @@ pub mod Permits
 pub mod Permitting
 pub mod Requests
 pub mod Resized
+pub mod Serving
 pub mod Sound
 pub mod Standing
 pub mod Statuses

@@ -282,19 +282,16 @@ impl Table {
         if names::is_live(&self.names, made) {
             return Ok(Reply::Refused(Refusal::Taken));
         }
+        let semaphore = &self.objects[place as usize];
+        if semaphore.available_permits() < n {
+            return Ok(Reply::Nothing);
+        }
         names::reserve(&mut self.names, made)?;
         let semaphore = &mut self.objects[place as usize];
-        match semaphore.try_acquire(n) {
-            Some(permit) => {
-                names::set(&mut self.names, made, Thing::Permit(permit));
-                self.last = place;
-                Ok(Reply::Done)
-            }
-            None => {
-                names::forget(&mut self.names, made);
-                Ok(Reply::Nothing)
-            }
-        }
+        let permit = semaphore.try_acquire(n).unwrap();
+        names::set(&mut self.names, made, Thing::Permit(permit));
+        self.last = place;
+        Ok(Reply::Done)
     }
 
     /// Adds permits to a semaphore.

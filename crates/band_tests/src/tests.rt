@@ -68,8 +68,13 @@ fn run_on<S: Source, D: Sink>(alloc: Global, words: &[String], src: &mut S, dst:
     run_counted::<S, D, Brand>(alloc, words, src, dst, Blank::new(1))
 }
 
+fn play_word(alloc: Global) -> Result<Vec<String>, AllocError> {
+    Ok(vec![in alloc; String::from_str(alloc, "play")?]?)
+}
+
 #[test]
 fn plays_on_amounts(rt: HostRuntime) -> Result<(), Fail> {
+    let words = play_word(rt.alloc())?;
     let table = [
         (
             "sem s 1\nask a s 2 7\nask b s 1 8\ndrop a\nstatus s\npoll b 9\n",
@@ -114,12 +119,8 @@ fn plays_on_amounts(rt: HostRuntime) -> Result<(), Fail> {
     ];
     for (script, written) in table {
         let mut dst = BytesOut::new(rt.alloc());
-        play_on(
-            rt.alloc(),
-            &mut BytesIn::new(script.as_bytes()),
-            &mut dst,
-            200,
-        )?;
+        let mut src = BytesIn::new(script.as_bytes());
+        assert_eq!(rt; run_on(rt.alloc(), &words, &mut src, &mut dst), 0);
         assert_eq!(rt; dst.bytes(), written.as_bytes());
     }
     Ok(())
@@ -145,10 +146,6 @@ fn wakes_a_burst_in_order(rt: HostRuntime) -> Result<(), Fail> {
     assert_eq!(rt; status, 0);
     assert_eq!(rt; dst.bytes(), written.as_bytes());
     Ok(())
-}
-
-fn play_word(alloc: Global) -> Result<Vec<String>, AllocError> {
-    Ok(vec![in alloc; String::from_str(alloc, "play")?]?)
 }
 
 #[test]
