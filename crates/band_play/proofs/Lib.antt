@@ -1,3 +1,4 @@
+pub mod Answering
 pub mod Asking
 pub mod Called
 pub mod Calling
@@ -5,11 +6,11 @@ pub mod Change
 pub mod Devices
 pub mod Distinct
 pub mod Follow
-pub mod Givens
-pub mod Goings
 pub mod GrammarLemmas
+pub mod HeldLemmas
 pub mod LineCuts
 pub mod LineRows
+pub mod LineRuns
 pub mod Lists
 pub mod Making
 pub mod Merging
@@ -19,6 +20,7 @@ pub mod Numbers
 pub mod Parts
 pub mod Permits
 pub mod Permitting
+pub mod Pieces
 pub mod Requests
 pub mod Resized
 pub mod Sound

@@ -1,6 +1,6 @@
-pub mod Given
+pub mod Answers
+pub mod Faults
 pub mod Grammar
-pub mod Intake
 pub mod Kept
 pub mod Left
 pub mod Lines
@@ -10,6 +10,7 @@ pub mod Names
 pub mod Number
 pub mod Play
 pub mod Player
+pub mod Playing
 pub mod Script
 pub mod State
 pub mod Step

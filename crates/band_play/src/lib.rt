@@ -4,13 +4,14 @@
 mod call;
 mod fault;
 mod grammar;
-mod intake;
+mod held;
 mod lines;
 mod name;
 mod names;
 mod number;
 mod outlet;
 mod player;
+mod playing;
 mod print;
 mod program;
 mod reply;
