@@ -1,3 +1,4 @@
+pub mod Answering
 pub mod Asking
 pub mod Called
 pub mod Calling
@@ -6,11 +7,11 @@ pub mod Conservation
 pub mod Devices
 pub mod Distinct
 pub mod Follow
-pub mod Givens
-pub mod Goings
 pub mod GrammarLemmas
+pub mod HeldLemmas
 pub mod LineCuts
 pub mod LineRows
+pub mod LineRuns
 pub mod Lists
 pub mod Making
 pub mod Merging
@@ -22,6 +23,7 @@ pub mod ObjectPermits
 pub mod Parts
 pub mod Permits
 pub mod Permitting
+pub mod Pieces
 pub mod Requests
 pub mod Resized
 pub mod Serving

@@ -1,7 +1,7 @@
+pub mod Answers
 pub mod Conservation
-pub mod Given
+pub mod Faults
 pub mod Grammar
-pub mod Intake
 pub mod Kept
 pub mod Left
 pub mod Lines
@@ -11,6 +11,7 @@ pub mod Names
 pub mod Number
 pub mod Play
 pub mod Player
+pub mod Playing
 pub mod Script
 pub mod State
 pub mod Step

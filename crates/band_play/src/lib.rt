@@ -4,7 +4,7 @@
 mod call;
 mod fault;
 mod grammar;
-mod intake;
+mod held;
 mod laws;
 mod lines;
 mod name;
@@ -12,6 +12,7 @@ mod names;
 mod number;
 mod outlet;
 mod player;
+mod playing;
 mod print;
 mod program;
 mod reply;
