@@ -2,6 +2,7 @@
 //! of visits, and the devices that bytes come from and go to.
 #![tactic(auto)]
 
+mod failures;
 mod poll;
 mod sink;
 mod source;
@@ -12,8 +13,8 @@ mod wake_line;
 mod waker;
 
 pub use poll::{Poll, PollError};
-pub use sink::{BytesOut, Sink, SinkError, StdErr, StdOut};
-pub use source::{BytesIn, Source, SourceFailed, StdIn};
+pub use sink::{BytesOut, FailingOut, Sink, SinkError, StdErr, StdOut};
+pub use source::{BytesIn, FailingIn, Source, SourceFailed, StdIn};
 pub use steps::Steps;
 pub use wake_line::WakeLine;
 pub use waker::Waker;

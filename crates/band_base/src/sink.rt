@@ -1,8 +1,10 @@
 //! Where bytes go to.
-ghost use Rattle.std.specs.Prelude.{◌≡◌, ℕ, ◌+◌, ◌-◌, ◌^◌, ◌<◌, ◌≤◌, min, List, [], ◌++◌, take, length, Option, Some, None, IfOk, IfErr, OnErr, MatchResult};
+ghost use Rattle.std.specs.Prelude.{◌≡◌, ℕ, ◌+◌, ◌-◌, ◌^◌, ◌<◌, ◌≤◌, min, List, [], ◌++◌, take, length, Option, Some, None, IfOk, IfErr, OnErr, MatchResult, IsTrue, ◌↔◌};
 ghost use Rattle.std.specs.Io.KnownBytes.{WriteAppends};
 ghost use Rattle.band_base.specs.Device.{Rose, Adds};
+ghost use Rattle.band_base.specs.Failing.{fails_next, counted};
 
+use crate::failures::Failures;
 use std::alloc::Global;
 use std::io::{Stderr, Stdout, Write};
 use std::marker::Model;
@@ -84,6 +86,78 @@ impl Sink for BytesOut {
     {
         match self.taken.extend_from_slice(piece) {
             Ok(()) => Ok(piece.len()),
+            Err(_) => Err(SinkError::NoMemory),
+        }
+    }
+}
+
+/// A sink that keeps its bytes in memory, takes at most so many a call, and fails at the calls of given numbers. It tells
+/// its bytes.
+#[derive(Drop)]
+pub struct FailingOut<'a> {
+    taken: Vec<u8>,
+    most: usize,
+    calls: Failures<'a>,
+}
+
+impl<'a> Model for FailingOut<'a> {
+    ghost use Rattle.std.specs.Prelude.{◌<◌};
+    ghost use Rattle.band_base.specs.Failing.{FailingSink};
+
+    ghost Value = { FailingSink };
+
+    ghost view = { λ s. record { written = s.taken.items; most = s.most; calls = s.calls } };
+
+    ghost invariant = { λ s. 0 < s.most };
+}
+
+impl<'a> FailingOut<'a> {
+    /// A sink with no bytes yet, that takes `most` bytes a call, and fails at the calls whose numbers, from 1, stand in
+    /// `fail`. No call fails once more than the largest `u64` were made.
+    pub fn new(alloc: Global, most: usize, fail: &'a [u64]) -> FailingOut<'a>
+        requires { 0 < most }
+        ensures { result ≡ record { written = []; most = most; calls = record { fail = fail.now; made = 0; failed = 0 } } }
+    {
+        FailingOut {
+            taken: Vec::new(alloc),
+            most,
+            calls: Failures::new(fail),
+        }
+    }
+
+    /// The bytes written so far.
+    pub fn bytes(&self) -> &[u8]
+        ensures { result.now ≡ self.now.written }
+    {
+        &self.taken
+    }
+}
+
+impl Sink for FailingOut<'_> {
+    ghost written = { λ s. Some s.written };
+
+    ghost faults = { λ s. s.calls.failed };
+
+    fn write(&mut self, piece: &[u8]) -> Result<usize, SinkError>
+        // It fails exactly where the call's number says so.
+        ensures fails { (result ≡ Err SinkError.Failed) ↔ IsTrue (fails_next self.old.calls) }
+        // Else it takes as many as it may, or there is no memory.
+        ensures most { IfOk result (λ n. n ≡ min self.old.most (length piece.now)) }
+        ensures counts { self.new.calls ≡ counted self.old.calls }
+        ensures same { self.new.most ≡ self.old.most }
+        ensures count { IfOk result (λ n. n ≤ length piece.now) }
+        ensures some { IfOk result (λ n. 0 < length piece.now → 0 < n) }
+        ensures adds { IfOk result (λ n. self.new.written ≡ self.old.written ++ take n piece.now) }
+        ensures err { OnErr result (Some self.new.written ≡ Some self.old.written) }
+        ensures never_fall { self.old.calls.failed ≤ self.new.calls.failed }
+        ensures failed { result ≡ Err SinkError.Failed → Rose self.old.calls.failed self.new.calls.failed }
+    {
+        if self.calls.next_fails() {
+            return Err(SinkError::Failed);
+        }
+        let count = self.most.min(piece.len());
+        match self.taken.extend_from_slice(&piece[..count]) {
+            Ok(()) => Ok(count),
             Err(_) => Err(SinkError::NoMemory),
         }
     }

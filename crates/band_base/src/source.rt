@@ -1,8 +1,10 @@
 //! Where bytes come from.
-ghost use Rattle.std.specs.Prelude.{◌≡◌, ℕ, ◌+◌, ◌-◌, ◌^◌, ◌<◌, ◌≤◌, min, List, [], ◌++◌, take, length, Option, Some, None, IfOk, OnErr, IfSome, MatchResult};
+ghost use Rattle.std.specs.Prelude.{◌≡◌, ℕ, ◌+◌, ◌-◌, ◌^◌, ◌<◌, ◌≤◌, min, List, [], ◌++◌, take, length, Option, Some, None, IfOk, OnErr, IsErr, IfSome, MatchResult, IsTrue, ◌↔◌};
 ghost use Rattle.std.specs.Io.KnownBytes.{ReadConsumes};
 ghost use Rattle.band_base.specs.Device.{Rose, GivesFront};
+ghost use Rattle.band_base.specs.Failing.{fails_next, counted};
 
+use crate::failures::Failures;
 use std::io::{Read, Stdin};
 use std::marker::Model;
 use thiserror::Error;
@@ -73,6 +75,71 @@ impl Source for BytesIn<'_> {
         let (front, rest) = self.rest.split_at(count);
         buf[..count].copy_from_slice(front);
         self.rest = rest;
+        Ok(count)
+    }
+}
+
+/// A source over bytes in memory that gives at most so many a call, and fails at the calls of given numbers. It tells
+/// what is left.
+#[derive(Drop)]
+pub struct FailingIn<'a> {
+    rest: &'a [u8],
+    most: usize,
+    calls: Failures<'a>,
+}
+
+impl<'a> Model for FailingIn<'a> {
+    ghost use Rattle.std.specs.Prelude.{◌<◌};
+    ghost use Rattle.band_base.specs.Failing.{FailingSource};
+
+    ghost Value = { FailingSource };
+
+    ghost view = { λ s. record { left = s.rest.now; most = s.most; calls = s.calls } };
+
+    ghost invariant = { λ s. 0 < s.most };
+}
+
+impl<'a> FailingIn<'a> {
+    /// A source that has all of `bytes` left, gives `most` of them a call, and fails at the calls whose numbers, from 1,
+    /// stand in `fail`. No call fails once more than the largest `u64` were made.
+    pub fn new(bytes: &'a [u8], most: usize, fail: &'a [u64]) -> FailingIn<'a>
+        requires { 0 < most }
+        ensures { result ≡ record { left = bytes.now; most = most; calls = record { fail = fail.now; made = 0; failed = 0 } } }
+    {
+        FailingIn {
+            rest: bytes,
+            most,
+            calls: Failures::new(fail),
+        }
+    }
+}
+
+impl Source for FailingIn<'_> {
+    ghost left = { λ s. Some s.left };
+
+    ghost faults = { λ s. s.calls.failed };
+
+    fn read(&mut self, buf: &mut [u8]) -> Result<usize, SourceFailed>
+        // It fails exactly where the call's number says so.
+        ensures fails { IsErr result ↔ IsTrue (fails_next self.old.calls) }
+        // Else it gives as many as it may, of those that are left and fit.
+        ensures most { IfOk result (λ n. n ≡ min self.old.most (min (length self.old.left) (length buf.old))) }
+        ensures counts { self.new.calls ≡ counted self.old.calls }
+        ensures same { self.new.most ≡ self.old.most }
+        ensures count { IfOk result (λ n. n ≤ length buf.old) }
+        ensures front { IfOk result (λ n. self.old.left ≡ take n buf.new ++ self.new.left) }
+        ensures end { result ≡ Ok 0 → 0 < length buf.old → self.old.left ≡ [] }
+        ensures err { OnErr result (Some self.new.left ≡ Some self.old.left) }
+        ensures never_fall { self.old.calls.failed ≤ self.new.calls.failed }
+        ensures failed { OnErr result (Rose self.old.calls.failed self.new.calls.failed) }
+    {
+        if self.calls.next_fails() {
+            return Err(SourceFailed);
+        }
+        let count = self.most.min(self.rest.len()).min(buf.len());
+        let (front, left) = self.rest.split_at(count);
+        buf[..count].copy_from_slice(front);
+        self.rest = left;
         Ok(count)
     }
 }

@@ -78,6 +78,29 @@ fn bytes_go_out_in_order(rt: HostRuntime) -> Result<(), Fail> {
 }
 
 #[test]
+fn a_source_fails_at_its_calls(rt: HostRuntime) -> Result<(), Fail> {
+    let mut source = FailingIn::new(&[1, 2, 3], 2, &[2, 4]);
+    let mut buf = [0; 9];
+    assert_eq!(rt; read_through(&mut source, &mut buf)?, 2);
+    assert!(rt; read_through(&mut source, &mut buf).is_err());
+    assert_eq!(rt; read_through(&mut source, &mut buf)?, 1);
+    assert_eq!(rt; buf, [3, 2, 0, 0, 0, 0, 0, 0, 0]);
+    assert!(rt; read_through(&mut source, &mut buf).is_err());
+    assert_eq!(rt; read_through(&mut source, &mut buf)?, 0);
+    Ok(())
+}
+
+#[test]
+fn a_sink_fails_at_its_calls(rt: HostRuntime) -> Result<(), Fail> {
+    let mut sink = FailingOut::new(rt.alloc(), 2, &[2]);
+    assert_eq!(rt; write_through(&mut sink, b"abc")?, 2);
+    assert!(rt; matches!(write_through(&mut sink, b"c"), Err(SinkError::Failed)));
+    assert_eq!(rt; write_through(&mut sink, b"c")?, 1);
+    assert_eq!(rt; sink.bytes(), b"abc".as_slice());
+    Ok(())
+}
+
+#[test]
 fn standard_input_answers(rt: HostRuntime) -> Result<(), Fail> {
     let mut source = StdIn::new(rt.stdin());
     assert!(rt; read_through(&mut source, &mut [0; 4])? <= 4);

@@ -1,5 +1,5 @@
 -- What is added or taken in two steps.
-use Rattle.std.proofs.Common.{◌≡◌, ℕ, List, [], ◌++◌, take, drop, Option, Some, None, refl, sym, ◌∙◌, ap, subst, append_assoc, append-nil, length, length-append, ◌+◌, ◌-◌, ◌≤◌, arith}
+use Rattle.std.proofs.Common.{◌≡◌, ℕ, List, [], ◌++◌, take, drop, Option, Some, None, refl, sym, ◌∙◌, ap, append_assoc, append-nil, length, length-append, ◌+◌, ◌-◌, ◌≤◌, arith}
 use Rattle.std.proofs.lemmas.List.{take-append-drop, take_rest}
 use Rattle.band_base.specs.Device.{Rose, Adds, GivesFront}
 use Rattle.band_play.specs.Play.{AddsFront, Takes}
@@ -34,12 +34,6 @@ takes_piece piece n None y p size = tt
 takes_piece piece n (Some x) None p size = absurd p
 takes_piece piece n (Some x) (Some y) p size = (piece, p, size)
 
--- where all is left, nothing was taken
-pub takes_nothing : (n : ℕ) (x y : Option (List ℕ)) → y ≡ x → Takes n x y
-takes_nothing n x y e =
-    let P : Option (List ℕ) → Type 0 = λ o. Takes n x o in
-    subst P (sym e) (takes_piece [] n x x (gives_nothing x) (omega arith))
-
 -- after a piece, at most so many more
 pub takes_after : (piece : List ℕ) (n m : ℕ) (x y z : Option (List ℕ)) → GivesFront piece x y → Takes n y z → length piece + n ≤ m → Takes m x z
 takes_after piece n m None y z p q size = tt
@@ -56,10 +50,6 @@ front_after a b x y z p q = record {
   whole = rw (append_assoc, q.whole) refl;
   added = adds_more a q.front x y z p q.added;
 }
-
--- nothing is a front of each text
-pub no_front : (a : List ℕ) (at : Option (List ℕ)) → AddsFront a at at
-no_front a at = record { front = []; rest = a; whole = refl; added = adds_nothing at }
 
 -- a front of a front is one of the longer text
 pub front_of_longer : (a b : List ℕ) (x y : Option (List ℕ)) → AddsFront a x y → AddsFront (a ++ b) x y
@@ -78,15 +68,6 @@ pub record AddsUpTo (text rest : List ℕ) (before after : Option (List ℕ)) : 
 
 pub nothing_yet : (text : List ℕ) (at : Option (List ℕ)) → AddsUpTo text text at at
 nothing_yet text at = record { front = []; whole = refl; added = adds_nothing at }
-
-pub all_added : (text rest : List ℕ) (x y : Option (List ℕ)) → rest ≡ [] → AddsUpTo text rest x y → Adds text x y
-all_added text rest x y e q =
-    let whole : q.front ≡ text = sym (append-nil q.front) ∙ ap (λ r. q.front ++ r) (sym e) ∙ q.whole in
-    let P : List ℕ → Type 0 = λ a. Adds a x y in
-    subst P whole q.added
-
-pub front_added : (text rest : List ℕ) (x y : Option (List ℕ)) → AddsUpTo text rest x y → AddsFront text x y
-front_added text rest x y q = record { front = q.front; rest = rest; whole = q.whole; added = q.added }
 
 -- after a part of the rest
 pub part_added : (text rest : List ℕ) (n : ℕ) (x y z : Option (List ℕ)) → AddsUpTo text rest x y → Adds (take n rest) y z → AddsUpTo text (take (length rest - n) (drop n rest)) x z

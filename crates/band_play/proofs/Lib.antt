@@ -1,3 +1,4 @@
+pub mod Answering
 pub mod Asking
 pub mod Called
 pub mod Calling
@@ -8,11 +9,11 @@ pub mod Distinct
 pub mod Downgrading
 pub mod Excluding
 pub mod Follow
-pub mod Givens
-pub mod Goings
 pub mod GrammarLemmas
+pub mod HeldLemmas
 pub mod LineCuts
 pub mod LineRows
+pub mod LineRuns
 pub mod Lists
 pub mod Making
 pub mod Merging
@@ -26,6 +27,7 @@ pub mod Outcomes
 pub mod Parts
 pub mod Permits
 pub mod Permitting
+pub mod Pieces
 pub mod ReaderCalls
 pub mod Replaced
 pub mod Requests

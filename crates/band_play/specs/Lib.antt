@@ -1,8 +1,8 @@
+pub mod Answers
 pub mod Conservation
 pub mod Exclusion
-pub mod Given
+pub mod Faults
 pub mod Grammar
-pub mod Intake
 pub mod Kept
 pub mod Left
 pub mod Lines
@@ -13,6 +13,7 @@ pub mod Number
 pub mod Objects
 pub mod Play
 pub mod Player
+pub mod Playing
 pub mod Script
 pub mod State
 pub mod Step

@@ -5,7 +5,7 @@ use Rattle.band_base.specs.Device.{Adds}
 use Rattle.band_play.specs.declared.fault.PlayFault.{PlayFault}
 use Rattle.band_play.specs.declared.fault.PlayFault.TheVariants as faults
 use Rattle.band_play.specs.Grammar.{call_of}
-use Rattle.band_play.specs.Script.{Verdict, verdict, lines_of, calls_of, calls_within, transcript}
+use Rattle.band_play.specs.Script.{Verdict, Good, Malformed, TooLong, verdict, lines_of, calls_of, calls_within, transcript}
 
 -- a front of this text was added at the end of what was written, where that is told
 pub record AddsFront (text : List ℕ) (before after : Option (List ℕ)) : Type 0 where
@@ -44,10 +44,23 @@ StopsEarly limit (Some bytes) None before after = ⊥
 StopsEarly limit (Some bytes) (Some left) before after =
     (given : List ℕ) × (bytes ≡ given ++ left) × PlaysGiven limit given before after
 
--- where the source told its bytes: what was written is a front of the transcript
-abbrev pub WritesFront : ℕ → Option (List ℕ) → Option (List ℕ) → Option (List ℕ) → Type 0
-WritesFront limit None before after = Unit {0}
-WritesFront limit (Some bytes) before after = AddsFront (transcript (calls_within limit bytes)) before after
+-- where the source told its bytes: what was written is a front of the transcript of the lines that it gave
+abbrev pub WritesFront : ℕ → Option (List ℕ) → Option (List ℕ) → Option (List ℕ) → Option (List ℕ) → Type 0
+WritesFront limit None left before after = Unit {0}
+WritesFront limit (Some bytes) None before after = ⊥
+WritesFront limit (Some bytes) (Some left) before after =
+    (given : List ℕ) × (bytes ≡ given ++ left) × AddsFront (transcript (calls_within limit given)) before after
+
+-- the answer that tells an outcome
+abbrev pub answer_of : Verdict → Result ℕ PlayFault
+answer_of (Good lines) = Ok lines
+answer_of (Malformed line) = Err (faults.Malformed line)
+answer_of TooLong = Err faults.TooLong
+
+-- where the source told its bytes: the answer tells their outcome, or there was no memory
+abbrev pub Completes : ℕ → Option (List ℕ) → Result ℕ PlayFault → Type 0
+Completes limit None answer = Unit {0}
+Completes limit (Some bytes) answer = (answer ≡ answer_of (verdict limit bytes)) ⊎ (answer ≡ Err faults.NoMemory)
 
 -- the most bytes of a script that the program plays
 abbrev pub program_limit : ℕ
@@ -64,3 +77,8 @@ status_of (Err faults.TooLong) = 4
 status_of (Err faults.Read) = 5
 status_of (Err faults.Write) = 6
 status_of (Err faults.NoMemory) = 7
+
+-- where the source told its bytes: the status tells their outcome, or there was no memory
+abbrev pub CompletesAs : ℕ → Option (List ℕ) → ℕ → Type 0
+CompletesAs limit None status = Unit {0}
+CompletesAs limit (Some bytes) status = (status ≡ status_of (answer_of (verdict limit bytes))) ⊎ (status ≡ 7)

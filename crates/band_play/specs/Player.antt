@@ -1,5 +1,5 @@
 -- What contracts say of a player.
-use Rattle.std.specs.Prelude.{◌≡◌, ℕ, ◌<◌, List, Some}
+use Rattle.std.specs.Prelude.{ℕ, ◌<◌, List, Some}
 use Rattle.band_play.specs.declared.call.Call.{Call}
 use Rattle.band_play.specs.declared.call.Call.TheVariants.{Sem, Mutex, Rw, Ask, Lock, Read, Write, Poll, Drop, Try, TryLock, TryRead, TryWrite, Release, Reduce, Drain, Forget, Split, Merge, Downgrade, Status}
 use Rattle.band_play.specs.declared.player.Player.{Player}
@@ -18,13 +18,11 @@ wakers_left player = kept.wakes_left player.table
 
 -- from each state that the player may have come to, it gives the reply and the wakers of the call's outcome, and comes to its state
 abbrev pub Follows : (State → Outcome) → Player → Reply → Player → Type 0
-Follows call old reply new =
-    (state : State) → StandsFor old state →
-    (reply ≡ (call state).reply) × (wakers_left new ≡ (call state).woken) × StandsFor new (call state).state
+Follows call old reply new = kept.Follows call old.table reply new.table
 
--- it has come to what it had come to
+-- it has come to what it had come to, whichever of its wakers are taken
 abbrev pub Stays : Player → Player → Type 0
-Stays old new = (state : State) → StandsFor old state → StandsFor new state
+Stays old new = kept.Remains old.table new.table
 
 -- the calls that take no memory
 abbrev pub TakesNoMemory : Call → Type 0

@@ -1,5 +1,6 @@
 //! Why a script was not played to its end.
 
+use band_base::{SinkError, SourceFailed};
 use std::alloc::AllocError;
 use thiserror::Error;
 
@@ -31,5 +32,30 @@ impl From<AllocError> for PlayFault {
 
     fn from(_error: AllocError) -> PlayFault {
         PlayFault::NoMemory
+    }
+}
+
+impl From<SourceFailed> for PlayFault {
+    ghost use Rattle.std.specs.Prelude.{◌≡◌};
+    ghost use Rattle.band_play.specs.declared.fault.PlayFault.TheVariants.{Read};
+
+    ghost from_gives = { λ _ fault. fault ≡ Read };
+
+    fn from(_error: SourceFailed) -> PlayFault {
+        PlayFault::Read
+    }
+}
+
+impl From<SinkError> for PlayFault {
+    ghost use Rattle.std.specs.Prelude.{◌≡◌};
+    ghost use Rattle.band_play.specs.Faults.{fault_of};
+
+    ghost from_gives = { λ error fault. fault ≡ fault_of error };
+
+    fn from(error: SinkError) -> PlayFault {
+        match error {
+            SinkError::Failed => PlayFault::Write,
+            SinkError::NoMemory => PlayFault::NoMemory,
+        }
     }
 }

@@ -2,6 +2,7 @@
 ghost use Rattle.std.specs.Prelude.{◌≡◌, ◌≤◌, List, ℕ, length, IfSome, IfNone};
 ghost use Rattle.band_play.specs.declared.call.Call.{Call as TheCall};
 ghost use Rattle.band_play.specs.Left.{words_left};
+ghost use Rattle.band_play.specs.Player.{ForReaders};
 ghost use Rattle.band_play.specs.Grammar.{IsLine, call_of, form_of, one_name_of, two_names_of, name_number_of, two_names_number_of, ask_of, rw_of, readers_of, most_of};
 
 use crate::words::Words;
@@ -12,6 +13,8 @@ pub fn parse_line(line: &[u8]) -> Option<Call>
     ensures exact { result ≡ call_of line.now }
     ensures some { IfSome result (λ call. IsLine line.now call) }
     ensures none { IfNone result ((call : TheCall) → IsLine line.now call → ⊥) }
+    // So a player can run it.
+    ensures readers { IfSome result (λ call. ForReaders call) }
 {
     read_line(line)
 }

@@ -4,8 +4,8 @@
 mod call;
 mod fault;
 mod grammar;
+mod held;
 mod holding;
-mod intake;
 mod laws;
 mod lines;
 mod name;
@@ -14,6 +14,7 @@ mod number;
 mod object;
 mod outlet;
 mod player;
+mod playing;
 mod print;
 mod program;
 mod reply;

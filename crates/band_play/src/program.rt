@@ -2,7 +2,7 @@
 ghost use Rattle.std.specs.Prelude.{◌≡◌, ◌≢◌, ◌↔◌, ℕ, ◌+◌, ◌≤◌, [], ◌∷◌, codes, map, string_bytes, IsTrue};
 ghost use Rattle.band_base.specs.Device.{Rose};
 ghost use Rattle.band_play.specs.Script.{Good, Malformed, TooLong};
-ghost use Rattle.band_play.specs.Play.{Comes, AllRead, Takes, StopsEarly, WritesFront, IsStatus, status_of, program_limit};
+ghost use Rattle.band_play.specs.Play.{Comes, AllRead, Takes, StopsEarly, WritesFront, CompletesAs, IsStatus, status_of, program_limit};
 
 use crate::{PlayFault, play};
 use band_base::{Sink, Source, Steps};
@@ -33,8 +33,10 @@ pub fn run<S: Source, D: Sink, E: Sink, L: Ledger>(
     ensures read { result ≡ 5 → Rose (S.faults src.old) (S.faults src.new) }
     ensures stops { result ≡ 5 → StopsEarly program_limit (S.left src.old) (S.left src.new) (D.written dst.old) (D.written dst.new) }
     ensures write { result ≡ 6 → Rose (D.faults dst.old) (D.faults dst.new) }
-    ensures front { result ≡ 6 → WritesFront program_limit (S.left src.old) (D.written dst.old) (D.written dst.new) }
-    ensures no_memory { result ≡ 7 → WritesFront program_limit (S.left src.old) (D.written dst.old) (D.written dst.new) }
+    ensures front { result ≡ 6 → WritesFront program_limit (S.left src.old) (S.left src.new) (D.written dst.old) (D.written dst.new) }
+    ensures no_memory { result ≡ 7 → WritesFront program_limit (S.left src.old) (S.left src.new) (D.written dst.old) (D.written dst.new) }
+    // Where neither end failed, the status tells the outcome, or there was no memory.
+    ensures completes { map string_bytes words.now ≡ codes "play" ∷ [] → (Rose (S.faults src.old) (S.faults src.new) → ⊥) → (Rose (D.faults dst.old) (D.faults dst.new) → ⊥) → CompletesAs program_limit (S.left src.old) result }
     ensures reads_never_fall { S.faults src.old ≤ S.faults src.new }
     ensures writes_never_fall { D.faults dst.old ≤ D.faults dst.new }
 {

@@ -1,18 +1,20 @@
 //! The playing of a script from a source to a sink.
-ghost use Rattle.std.specs.Prelude.{◌≡◌, ℕ, ◌+◌, ◌<◌, ◌≤◌, take, OnOk, IfOk, IfErr, Err};
-ghost use Rattle.band_base.specs.Device.{Rose};
+ghost use Rattle.std.specs.Prelude.{◌≡◌, ℕ, ◌+◌, ◌<◌, ◌≤◌, [], take, length, OnOk, OnErr, IfOk, IfSome, Err};
+ghost use Rattle.band_base.specs.Device.{Rose, GivesFront};
 ghost use Rattle.band_play.specs.Script.{Good, Malformed, TooLong};
-ghost use Rattle.band_play.specs.Play.{Comes, AllRead, Takes, StopsEarly, WritesFront};
-ghost use Rattle.band_play.specs.Given.{HasSize, ComesOf, Fails, answer_at_end};
+ghost use Rattle.band_play.specs.Play.{Comes, AllRead, Takes, StopsEarly, WritesFront, Completes};
+ghost use Rattle.band_play.specs.Answers.{Answers};
 
 use crate::PlayFault;
-use crate::intake::{End, Intake, take_in};
-use crate::lines::{Played, play_lines};
-use band_base::{Sink, Source, Steps};
+use crate::playing::Playing;
+use band_base::{Sink, Source, SourceFailed, Steps};
 use std::alloc::Global;
 use std::sync::ledger::Ledger;
 
-/// Plays a script of at most `limit` bytes, and answers how many lines it has.
+/// The most bytes that one read asks for.
+const PIECE: usize = 4096;
+
+/// Plays a script of at most `limit` bytes as it comes, and answers how many lines it has.
 pub fn play<S: Source, D: Sink, L: Ledger>(
     alloc: Global,
     src: &mut S,
@@ -30,32 +32,65 @@ pub fn play<S: Source, D: Sink, L: Ledger>(
     ensures read { result ≡ Err PlayFault.Read → Rose (S.faults src.old) (S.faults src.new) }
     ensures stops { result ≡ Err PlayFault.Read → StopsEarly limit (S.left src.old) (S.left src.new) (D.written dst.old) (D.written dst.new) }
     ensures write { result ≡ Err PlayFault.Write → Rose (D.faults dst.old) (D.faults dst.new) }
-    ensures front { result ≡ Err PlayFault.Write → WritesFront limit (S.left src.old) (D.written dst.old) (D.written dst.new) }
-    ensures no_memory { result ≡ Err PlayFault.NoMemory → WritesFront limit (S.left src.old) (D.written dst.old) (D.written dst.new) }
+    ensures front { result ≡ Err PlayFault.Write → WritesFront limit (S.left src.old) (S.left src.new) (D.written dst.old) (D.written dst.new) }
+    ensures no_memory { result ≡ Err PlayFault.NoMemory → WritesFront limit (S.left src.old) (S.left src.new) (D.written dst.old) (D.written dst.new) }
+    // Where neither end failed, the answer tells the outcome, or there was no memory.
+    ensures completes { (Rose (S.faults src.old) (S.faults src.new) → ⊥) → (Rose (D.faults dst.old) (D.faults dst.new) → ⊥) → Completes limit (S.left src.old) result }
     ensures reads_never_fall { S.faults src.old ≤ S.faults src.new }
     ensures writes_never_fall { D.faults dst.old ≤ D.faults dst.new }
 {
-    let intake = take_in(alloc, src, limit)?;
-    play_intake(alloc, &intake, limit, dst, steps)
+    play_pieces(alloc, src, dst, limit, steps)
 }
 
-/// Plays what was taken from a source.
-fn play_intake<D: Sink, L: Ledger>(
+/// Plays each piece before the next is read.
+fn play_pieces<S: Source, D: Sink, L: Ledger>(
     alloc: Global,
-    intake: &Intake,
-    limit: u64,
+    src: &mut S,
     dst: &mut D,
+    limit: u64,
     steps: &mut Steps<L>,
 ) -> Result<u64, PlayFault>
-    requires { HasSize limit intake.now.end intake.now.bytes.items }
-    ensures ok { IfOk result (λ lines. ComesOf (Good lines) limit intake.now.end intake.now.bytes.items (D.written dst.old) (D.written dst.new)) }
-    ensures ended { OnOk result (intake.now.end ≡ End.Ended) }
-    ensures fails { IfErr result (λ fault. Fails fault limit intake.now.end intake.now.bytes.items (D.written dst.old) (D.written dst.new) (D.faults dst.old) (D.faults dst.new)) }
-    ensures never_fall { D.faults dst.old ≤ D.faults dst.new }
+    requires { limit < u64.MAX }
+    ensures answers { Answers result limit (S.left src.old) (S.left src.new) (D.written dst.old) (D.written dst.new)
+        (record { reads = S.faults src.old; reads_now = S.faults src.new; writes = D.faults dst.old; writes_now = D.faults dst.new }) }
+    ensures takes { Takes (limit + 1) (S.left src.old) (S.left src.new) }
+    ensures reads_never_fall { S.faults src.old ≤ S.faults src.new }
+    ensures writes_never_fall { D.faults dst.old ≤ D.faults dst.new }
 {
-    let within = within(&intake.bytes, limit);
-    let played = play_lines(alloc, within, dst, steps)?;
-    answer_at_end(intake.end, &played)
+    let mut playing = Playing::new(alloc);
+    let mut piece = [0; PIECE];
+    let mut left = limit;
+    'pieces: loop {
+        let given = read_piece(src, &mut piece, left)?;
+        if given.is_empty() {
+            return playing.end();
+        }
+        playing.feed(within(given, left), dst, steps)?;
+        if given.len() as u64 > left {
+            return Err(PlayFault::TooLong);
+        }
+        left -= given.len() as u64;
+    }
+}
+
+/// Reads a piece of what may still come, and one byte more where all of that fits.
+fn read_piece<'a, S: Source>(
+    src: &mut S,
+    piece: &'a mut [u8; PIECE],
+    left: u64,
+) -> Result<&'a [u8], SourceFailed>
+    requires { left < u64.MAX }
+    ensures front { IfOk result (λ given. GivesFront given.now (S.left src.old) (S.left src.new)) }
+    ensures count { IfOk result (λ given. length given.now ≤ left + 1) }
+    // Nothing is given only at the end, where the source tells its bytes.
+    ensures end { IfOk result (λ given. given.now ≡ [] → IfSome (S.left src.old) (λ bytes. bytes ≡ [])) }
+    ensures err { OnErr result (S.left src.new ≡ S.left src.old) }
+    ensures never_fall { S.faults src.old ≤ S.faults src.new }
+    ensures failed { OnErr result (Rose (S.faults src.old) (S.faults src.new)) }
+{
+    let room = left.min(PIECE as u64 - 1) as usize + 1;
+    let count = src.read(&mut piece[..room])?;
+    Ok(&piece[..count])
 }
 
 /// The bytes within the limit.
@@ -63,16 +98,4 @@ fn within(bytes: &[u8], limit: u64) -> &[u8]
     ensures { result.now ≡ take limit bytes.now }
 {
     &bytes[..bytes.len().min(limit as usize)]
-}
-
-fn answer_at_end(end: End, played: &Played) -> Result<u64, PlayFault>
-    requires { played.now.lines < u64.MAX }
-    ensures { result ≡ answer_at_end end played.now.lines played.now.rest.now }
-{
-    match end {
-        End::Failed => Err(PlayFault::Read),
-        End::Over => Err(PlayFault::TooLong),
-        End::Ended if played.rest.is_empty() => Ok(played.lines),
-        End::Ended => Err(PlayFault::Malformed(played.lines + 1)),
-    }
 }

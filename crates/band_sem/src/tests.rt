@@ -78,7 +78,7 @@ fn knock<L: Ledger>(sem: &mut Semaphore, waker: Waker, steps: &mut Steps<L>) -> 
     }
 }
 
-/// Two ask, the first gives up, and the second is woken and has its permit until it gives it back.
+/// Two ask, the first gives up, and the second is woken by the waker that it left last, and has its permit.
 fn first_gives_up<L: Ledger, R: Abort>(rt: &R, alloc: Global, blank: Blank)
     requires name { blank.name ≡ L.name }
     requires parts { blank.parts ≡ L.parts }
@@ -89,6 +89,7 @@ fn first_gives_up<L: Ledger, R: Abort>(rt: &R, alloc: Global, blank: Blank)
     let mut two = sem.acquire(2);
     let mut one = sem.acquire(1);
     pends(rt, &mut two, &mut sem, Waker(7), &mut steps);
+    pends(rt, &mut one, &mut sem, Waker(6), &mut steps);
     pends(rt, &mut one, &mut sem, Waker(8), &mut steps);
     two.cancel(&mut sem, &mut steps);
     assert_eq!(rt; sem.take_wake().map(|waker| waker.0), Some(8));
@@ -133,63 +134,76 @@ fn takes<R: Abort>(rt: &R, sem: &mut Semaphore, n: u64) -> SemaphorePermit
     }
 }
 
-/// One takes permits, another waits, and then permits are added twice.
+/// Takes more permits than are there.
+fn misses<R: Abort>(rt: &R, sem: &mut Semaphore, n: u64)
+    ensures { sem.new ≡ sem.old }
+{
+    if let Some(permit) = sem.try_acquire(n) {
+        permit.lose();
+        panic!(rt; "they were not to be there")
+    }
+}
+
+/// One asks, and then permits are added twice.
+#[derive(Drop)]
 struct Waited {
-    permits: u64,
-    taken: u64,
     asked: u64,
     added: u64,
     left: u64,
+    held: u64,
     in_the_end: u64,
 }
 
 /// Who waited is woken once, has its permits before anybody else, and what is left is to be had.
-fn waits<L: Ledger, R: Abort>(rt: &R, alloc: Global, case: &Waited, steps: &mut Steps<L>) {
-    let mut sem = Semaphore::new(alloc, 5, case.permits);
-    let taken = takes(rt, &mut sem, case.taken);
+fn waits<L: Ledger, R: Abort>(rt: &R, sem: &mut Semaphore, case: &Waited, steps: &mut Steps<L>) {
     let mut request = sem.acquire(case.asked);
-    pends(rt, &mut request, &mut sem, Waker(7), steps);
+    pends(rt, &mut request, sem, Waker(7), steps);
     assert_eq!(rt; sem.waiting_count(), 1);
-    adds(rt, &mut sem, case.added, steps);
+    adds(rt, sem, case.added, steps);
     assert_eq!(rt; sem.take_wake().map(|waker| waker.0), Some(7));
     assert!(rt; sem.take_wake().is_none());
     assert_eq!(rt; sem.granted_permits(), case.asked);
     assert_eq!(rt; sem.available_permits(), case.left);
-    let permit = gets(rt, &mut request, &mut sem, Waker(8), steps);
-    assert_eq!(rt; sem.held_permits(), case.taken + case.asked);
-    adds(rt, &mut sem, 1, steps);
+    let permit = gets(rt, &mut request, sem, Waker(8), steps);
+    assert_eq!(rt; permit.permits(), case.asked);
+    assert_eq!(rt; sem.held_permits(), case.held);
+    adds(rt, sem, 1, steps);
     assert_eq!(rt; sem.available_permits(), case.in_the_end);
-    taken.lose();
     permit.lose();
     request.lose();
 }
 
+/// One asks where nothing is, and one where all is taken.
 fn each_waits<L: Ledger, R: Abort>(rt: &R, alloc: Global, blank: Blank)
     requires name { blank.name ≡ L.name }
     requires parts { blank.parts ≡ L.parts }
     requires some { 0 < blank.parts }
 {
     let mut steps: Steps<L> = Steps::new(blank);
-    for case in &[
-        Waited {
-            permits: 0,
-            taken: 0,
-            asked: 2,
-            added: 3,
-            left: 1,
-            in_the_end: 2,
-        },
-        Waited {
-            permits: 1,
-            taken: 1,
-            asked: 1,
-            added: 1,
-            left: 0,
-            in_the_end: 1,
-        },
-    ] {
-        waits(rt, alloc, case, &mut steps);
-    }
+    let none_there = Waited {
+        asked: 2,
+        added: 3,
+        left: 1,
+        held: 2,
+        in_the_end: 2,
+    };
+    waits(
+        rt,
+        &mut Semaphore::new(alloc, 5, 0),
+        &none_there,
+        &mut steps,
+    );
+    let all_taken = Waited {
+        asked: 1,
+        added: 1,
+        left: 0,
+        held: 2,
+        in_the_end: 1,
+    };
+    let mut sem = Semaphore::new(alloc, 5, 1);
+    let taken = takes(rt, &mut sem, 1);
+    waits(rt, &mut sem, &all_taken, &mut steps);
+    taken.lose();
 }
 
 #[test]
@@ -214,6 +228,16 @@ fn splits_and_merges<R: Abort>(rt: &R, permit: &mut SemaphorePermit, n: u64)
     }
 }
 
+/// More than there is can't be split off.
+fn splits_no_more<R: Abort>(rt: &R, permit: &mut SemaphorePermit, n: u64)
+    ensures { permit.new ≡ permit.old }
+{
+    if let Some(other) = permit.split(n) {
+        other.lose();
+        panic!(rt; "it has fewer")
+    }
+}
+
 /// Permits come and go while nobody waits.
 fn comes_and_goes<L: Ledger, R: Abort>(rt: &R, alloc: Global, blank: Blank)
     requires name { blank.name ≡ L.name }
@@ -227,8 +251,12 @@ fn comes_and_goes<L: Ledger, R: Abort>(rt: &R, alloc: Global, blank: Blank)
     let mut permit = takes(rt, &mut sem, 2);
     adds(rt, &mut sem, 2, &mut steps);
     assert_eq!(rt; sem.available_permits(), 3);
+    assert_eq!(rt; sem.number(), 5);
+    misses(rt, &mut sem, 4);
     splits_and_merges(rt, &mut permit, 1);
+    splits_no_more(rt, &mut permit, 3);
     let permit = sem.shrink(permit, 1, &mut steps);
+    assert_eq!(rt; permit.permits(), 1);
     assert_eq!(rt; sem.available_permits(), 4);
     sem.forget(permit);
     assert_eq!(rt; sem.held_permits(), 0);
@@ -251,11 +279,11 @@ fn refuses<L: Ledger, R: Abort>(rt: &R, alloc: Global, blank: Blank)
 {
     let mut steps: Steps<L> = Steps::new(blank);
     let mut sem = Semaphore::new(alloc, 5, u64::MAX);
-    assert!(rt; sem.release(1, &mut steps).is_err());
+    assert!(rt; matches!(sem.release(1, &mut steps), Err(ReleaseError::Overflow)));
     assert_eq!(rt; sem.available_permits(), u64::MAX);
     let mut other = Semaphore::new(alloc, 6, 0);
     assert!(rt; other.reduce_permits(u64::MAX, &mut steps).is_ok());
-    assert!(rt; other.reduce_permits(1, &mut steps).is_err());
+    assert!(rt; matches!(other.reduce_permits(1, &mut steps), Err(ReduceError::Debt)));
     let mut permit = takes(rt, &mut sem, 2);
     match permit.merge(takes(rt, &mut other, 0)) {
         Err(MergeError::OtherSemaphore(back)) => back.lose(),

@@ -1,8 +1,8 @@
 //! Scripts, and what they come to.
 ghost use Rattle.std.specs.Prelude.{◌≡◌, ◌<◌};
 
-use crate::devices::{Drips, FailingSink, FailingSource, Lasts, Measured, Sips};
-use band_base::{BytesIn, BytesOut, Sink, Source, Steps};
+use crate::devices::{Lasts, Measured};
+use band_base::{BytesIn, BytesOut, FailingIn, FailingOut, Sink, Source, Steps};
 use band_play::{Call, Name, PlayFault, Player, Reply, play, run};
 use std::alloc::{AllocError, Global};
 use std::fmt::Write;
@@ -68,8 +68,13 @@ fn run_on<S: Source, D: Sink>(alloc: Global, words: &[String], src: &mut S, dst:
     run_counted::<S, D, Brand>(alloc, words, src, dst, Blank::new(1))
 }
 
+fn play_word(alloc: Global) -> Result<Vec<String>, AllocError> {
+    Ok(vec![in alloc; String::from_str(alloc, "play")?]?)
+}
+
 #[test]
 fn plays_on_amounts(rt: HostRuntime) -> Result<(), Fail> {
+    let words = play_word(rt.alloc())?;
     let table = [
         (
             "sem s 1\nask a s 2 7\nask b s 1 8\ndrop a\nstatus s\npoll b 9\n",
@@ -114,41 +119,66 @@ fn plays_on_amounts(rt: HostRuntime) -> Result<(), Fail> {
     ];
     for (script, written) in table {
         let mut dst = BytesOut::new(rt.alloc());
-        play_on(
-            rt.alloc(),
-            &mut BytesIn::new(script.as_bytes()),
-            &mut dst,
-            200,
-        )?;
+        let mut src = BytesIn::new(script.as_bytes());
+        assert_eq!(rt; run_on(rt.alloc(), &words, &mut src, &mut dst), 0);
         assert_eq!(rt; dst.bytes(), written.as_bytes());
     }
     Ok(())
 }
 
-#[test]
-fn wakes_a_burst_in_order(rt: HostRuntime) -> Result<(), Fail> {
-    let mut script = String::from_str(rt.alloc(), "sem s 0\n")?;
-    let mut written = String::from_str(rt.alloc(), "ok\n")?;
-    for i in 1..66 {
+/// A script on which tasks wait and are woken at once, and its transcript.
+#[derive(Drop)]
+struct Burst {
+    script: String,
+    written: String,
+}
+
+fn make_burst(alloc: Global, tasks: u64) -> Result<Burst, AllocError>
+    requires { tasks < 1000 }
+{
+    let mut script = String::from_str(alloc, "sem s 0\n")?;
+    let mut written = String::from_str(alloc, "ok\n")?;
+    for i in 0..tasks {
         writeln!(script, "ask r{i} s 1 {i}")?;
         written.push_str("pending\n")?;
     }
-    script.push_str("release s 67\nstatus s\n")?;
+    writeln!(script, "release s {}", tasks + 2)?;
+    script.push_str("status s\n")?;
     written.push_str("ok\n")?;
-    for i in 1..66 {
+    for i in 0..tasks {
         writeln!(written, "wake {i}")?;
     }
-    written.push_str("available 2 free 2 waiting 0 granted 65 held 0\n")?;
+    writeln!(
+        written,
+        "available 2 free 2 waiting 0 granted {tasks} held 0"
+    )?;
+    Ok(Burst { script, written })
+}
+
+#[test]
+fn wakes_a_burst_in_order(rt: HostRuntime) -> Result<(), Fail> {
+    let burst = make_burst(rt.alloc(), 65)?;
     let mut dst = BytesOut::new(rt.alloc());
-    let mut src = BytesIn::new(script.as_bytes());
+    let mut src = BytesIn::new(burst.script.as_bytes());
     let status = run_on(rt.alloc(), &play_word(rt.alloc())?, &mut src, &mut dst);
     assert_eq!(rt; status, 0);
-    assert_eq!(rt; dst.bytes(), written.as_bytes());
+    assert_eq!(rt; dst.bytes(), burst.written.as_bytes());
     Ok(())
 }
 
-fn play_word(alloc: Global) -> Result<Vec<String>, AllocError> {
-    Ok(vec![in alloc; String::from_str(alloc, "play")?]?)
+#[test]
+fn plays_in_any_pieces(rt: HostRuntime) -> Result<(), Fail> {
+    let burst = make_burst(rt.alloc(), 400)?;
+    for gives in [1, 7, 4096] {
+        for takes in [1, 3, usize::MAX] {
+            let mut src = FailingIn::new(burst.script.as_bytes(), gives, &[]);
+            let mut dst = FailingOut::new(rt.alloc(), takes, &[]);
+            let said = play_on(rt.alloc(), &mut src, &mut dst, 10_000)?;
+            assert_eq!(rt; said.as_str(), "403 lines");
+            assert_eq!(rt; dst.bytes(), burst.written.as_bytes());
+        }
+    }
+    Ok(())
 }
 
 #[test]
@@ -213,11 +243,62 @@ fn refuses_other_words(rt: HostRuntime) -> Result<(), Fail> {
 
 #[test]
 fn plays_in_small_pieces(rt: HostRuntime) -> Result<(), Fail> {
-    let mut src = Drips(BytesIn::new(STORED.as_bytes()));
-    let mut dst = Sips(BytesOut::new(rt.alloc()));
+    let mut src = FailingIn::new(STORED.as_bytes(), 1, &[]);
+    let mut dst = FailingOut::new(rt.alloc(), 3, &[]);
     let said = play_on(rt.alloc(), &mut src, &mut dst, 100)?;
     assert_eq!(rt; said.as_str(), "5 lines");
-    assert_eq!(rt; dst.0.bytes(), STORED_OUT.as_bytes());
+    assert_eq!(rt; dst.bytes(), STORED_OUT.as_bytes());
+    Ok(())
+}
+
+// 111 bytes, which is the longest line that is a call.
+const LONGEST: &str =
+    "ask rrrrrrrrrrrrrrrrrrrrrrrrrrrrrrrr ssssssssssssssssssssssssssssssss 18446744073709551615 18446744073709551615";
+
+#[test]
+fn plays_a_line_that_is_cut(rt: HostRuntime) -> Result<(), Fail> {
+    let mut script = String::from_str(
+        rt.alloc(),
+        "sem ssssssssssssssssssssssssssssssss 18446744073709551615\n",
+    )?;
+    script.push_str(LONGEST)?;
+    let ends = [
+        ("\n", "2 lines", "ok\nready\n"),
+        ("", "malformed line 2", "ok\n"),
+        (" \n", "malformed line 2", "ok\n"),
+    ];
+    for (end, outcome, written) in ends {
+        let mut whole = String::from_str(rt.alloc(), script.as_str())?;
+        whole.push_str(end)?;
+        let mut src = FailingIn::new(whole.as_bytes(), 100, &[]);
+        let mut dst = BytesOut::new(rt.alloc());
+        let said = play_on(rt.alloc(), &mut src, &mut dst, 1000)?;
+        assert_eq!(rt; said.as_str(), outcome);
+        assert_eq!(rt; dst.bytes(), written.as_bytes());
+    }
+    Ok(())
+}
+
+#[test]
+fn refuses_a_long_line_that_is_cut(rt: HostRuntime) -> Result<(), Fail> {
+    let mut script = String::from_str(rt.alloc(), "sem s 1\n")?;
+    for _ in 0..20 {
+        script.push_str("aaaaaaaaaa")?;
+    }
+    let table = [
+        ("\nstatus s\n", 1000, "malformed line 2"),
+        ("", 1000, "malformed line 2"),
+        ("", 100, "too long"),
+    ];
+    for (end, limit, outcome) in table {
+        let mut whole = String::from_str(rt.alloc(), script.as_str())?;
+        whole.push_str(end)?;
+        let mut src = FailingIn::new(whole.as_bytes(), 7, &[]);
+        let mut dst = BytesOut::new(rt.alloc());
+        let said = play_on(rt.alloc(), &mut src, &mut dst, limit)?;
+        assert_eq!(rt; said.as_str(), outcome);
+        assert_eq!(rt; dst.bytes(), b"ok\n".as_slice());
+    }
     Ok(())
 }
 
@@ -240,21 +321,15 @@ fn reads_at_most_4096_bytes(rt: HostRuntime) -> Result<(), Fail> {
 
 #[test]
 fn writes_whole_lines(rt: HostRuntime) -> Result<(), Fail> {
-    let mut src = BytesIn::new(STORED.as_bytes());
-    let mut dst = Lasts(BytesOut::new(rt.alloc()));
-    let said = play_on(rt.alloc(), &mut src, &mut dst, 100)?;
-    assert_eq!(rt; said.as_str(), "5 lines");
-    assert_eq!(rt; dst.0.bytes(), b"\n\n\n\n\n".as_slice());
-    Ok(())
-}
-
-fn failing_source(reads_left: u64) -> FailingSource<'static> {
-    let bytes = Drips(BytesIn::new(STORED.as_bytes()));
-    FailingSource {
-        bytes,
-        reads_left,
-        faults: 0,
+    // One write for each piece in which a line ends.
+    for (gives, ends) in [(48, "\n"), (24, "\n\n"), (1, "\n\n\n\n\n")] {
+        let mut src = FailingIn::new(STORED.as_bytes(), gives, &[]);
+        let mut dst = Lasts(BytesOut::new(rt.alloc()));
+        let said = play_on(rt.alloc(), &mut src, &mut dst, 100)?;
+        assert_eq!(rt; said.as_str(), "5 lines");
+        assert_eq!(rt; dst.0.bytes(), ends.as_bytes());
     }
+    Ok(())
 }
 
 #[test]
@@ -267,51 +342,76 @@ fn tells_a_read_fault(rt: HostRuntime) -> Result<(), Fail> {
         (49, "5 lines", 0, STORED_OUT),
     ];
     for (reads, outcome, status, written) in table {
+        let fail = [reads + 1];
+        let mut src = FailingIn::new(STORED.as_bytes(), 1, &fail);
         let mut dst = BytesOut::new(rt.alloc());
-        let said = play_on(rt.alloc(), &mut failing_source(reads), &mut dst, 100)?;
+        let said = play_on(rt.alloc(), &mut src, &mut dst, 100)?;
         assert_eq!(rt; said.as_str(), outcome);
         assert_eq!(rt; dst.bytes(), written.as_bytes());
+        let mut src = FailingIn::new(STORED.as_bytes(), 1, &fail);
         let mut dst = BytesOut::new(rt.alloc());
-        let src = &mut failing_source(reads);
-        assert_eq!(rt; run_on(rt.alloc(), &words, src, &mut dst), status);
+        assert_eq!(rt; run_on(rt.alloc(), &words, &mut src, &mut dst), status);
         assert_eq!(rt; dst.bytes(), written.as_bytes());
     }
     Ok(())
 }
 
-fn failing_sink(alloc: Global, writes_left: u64) -> FailingSink {
-    FailingSink {
-        bytes: Sips(BytesOut::new(alloc)),
-        writes_left,
-        faults: 0,
-    }
+#[test]
+fn plays_what_came_before_a_read_fault(rt: HostRuntime) -> Result<(), Fail> {
+    let mut src = FailingIn::new(b"sem s 1\nask a", 4096, &[2]);
+    let mut dst = BytesOut::new(rt.alloc());
+    let said = play_on(rt.alloc(), &mut src, &mut dst, 100)?;
+    assert_eq!(rt; said.as_str(), "read fault");
+    assert_eq!(rt; dst.bytes(), b"ok\n".as_slice());
+    Ok(())
 }
 
 #[test]
 fn tells_a_write_fault(rt: HostRuntime) -> Result<(), Fail> {
     let words = play_word(rt.alloc())?;
     let table = [
-        (0, "write fault", 6, ""),
-        (5, "write fault", 6, "ok\npending\npen"),
+        (1, 0, "write fault", 6, ""),
+        (1, 5, "write fault", 6, "ok\npending\npen"),
         (
+            1,
             12,
             "write fault",
             6,
             "ok\npending\npending\nok\nwake 8\nrea",
         ),
-        (13, "5 lines", 0, STORED_OUT),
+        (1, 13, "5 lines", 0, STORED_OUT),
+        (48, 5, "write fault", 6, "ok\npending\npend"),
+        (
+            48,
+            11,
+            "write fault",
+            6,
+            "ok\npending\npending\nok\nwake 8\nread",
+        ),
+        (48, 12, "5 lines", 0, STORED_OUT),
     ];
-    for (writes, outcome, status, written) in table {
-        let mut src = BytesIn::new(STORED.as_bytes());
-        let mut dst = failing_sink(rt.alloc(), writes);
+    for (gives, writes, outcome, status, written) in table {
+        let fail = [writes + 1];
+        let mut src = FailingIn::new(STORED.as_bytes(), gives, &[]);
+        let mut dst = FailingOut::new(rt.alloc(), 3, &fail);
         let said = play_on(rt.alloc(), &mut src, &mut dst, 100)?;
         assert_eq!(rt; said.as_str(), outcome);
-        assert_eq!(rt; dst.bytes.0.bytes(), written.as_bytes());
-        let mut src = BytesIn::new(STORED.as_bytes());
-        let mut dst = failing_sink(rt.alloc(), writes);
+        assert_eq!(rt; dst.bytes(), written.as_bytes());
+        let mut src = FailingIn::new(STORED.as_bytes(), gives, &[]);
+        let mut dst = FailingOut::new(rt.alloc(), 3, &fail);
         assert_eq!(rt; run_on(rt.alloc(), &words, &mut src, &mut dst), status);
-        assert_eq!(rt; dst.bytes.0.bytes(), written.as_bytes());
+        assert_eq!(rt; dst.bytes(), written.as_bytes());
     }
+    Ok(())
+}
+
+#[test]
+fn keeps_what_was_written_before_a_write_fault(rt: HostRuntime) -> Result<(), Fail> {
+    let mut src = BytesIn::new(b"sem s 1\n");
+    let mut dst = FailingOut::new(rt.alloc(), 2, &[2]);
+    let said = play_on(rt.alloc(), &mut src, &mut dst, 100)?;
+    assert_eq!(rt; said.as_str(), "write fault");
+    assert_eq!(rt; dst.bytes(), b"ok".as_slice());
     Ok(())
 }
 

@@ -1,0 +1,95 @@
+-- Lines that each stand for a call: their calls, text and outcome, and those of lines after them.
+use Rattle.std.proofs.Common.{◌≡◌, ℕ, ◌+◌, Bool, List, [], ◌∷◌, ◌++◌, length, Option, Some, None, IsSome, refl, sym, ap, ◌∙◌, append_assoc, append-nil, arith}
+use Rattle.std.specs.List.{AllByRecursion}
+use Rattle.band_play.specs.declared.call.Call.{Call}
+use Rattle.band_play.specs.Grammar.{call_of}
+use Rattle.band_play.specs.State.{State}
+use Rattle.band_play.specs.Step.{step}
+use Rattle.band_play.specs.Script.{Verdict, Malformed, verdict_from, verdict_after, verdict_at_end, lines_of, rest_of, calls_of, calls_from, transcript, transcript_from}
+use Rattle.band_play.specs.Lines.{state_after, text_after}
+use Rattle.band_play.proofs.LineCuts.{lines_of-append}
+
+abbrev pub AreCalls : List (List ℕ) → Type 0
+AreCalls lines = AllByRecursion (λ line. IsSome (call_of line)) lines
+
+pub are_calls-append : (first second : List (List ℕ)) → AreCalls first → AreCalls second → AreCalls (first ++ second)
+are_calls-append [] second each more = more
+are_calls-append (line ∷ first) second each more = (each.0, are_calls-append first second each.1 more)
+
+calls_from-append : (call : Option Call) (first second : List Call) → IsSome call → calls_from call (first ++ second) ≡ calls_from call first ++ second
+calls_from-append None first second is = cc
+calls_from-append (Some call) first second is = refl
+
+pub calls_of-append : (first second : List (List ℕ)) → AreCalls first → calls_of (first ++ second) ≡ calls_of first ++ calls_of second
+calls_of-append [] second each = refl
+calls_of-append (line ∷ first) second each =
+    ap (λ calls. calls_from (call_of line) calls) (calls_of-append first second each.1)
+    ∙ calls_from-append (call_of line) (calls_of first) (calls_of second) each.0
+
+pub state_after-append : (state : State) (first second : List Call) → state_after state (first ++ second) ≡ state_after (state_after state first) second
+state_after-append state [] second = refl
+state_after-append state (call ∷ first) second = state_after-append (step call state).state first second
+
+pub transcript_from-append : (state : State) (first second : List Call) → transcript_from state (first ++ second) ≡ transcript_from state first ++ transcript_from (state_after state first) second
+transcript_from-append state [] second = refl
+transcript_from-append state (call ∷ first) second =
+    ap (λ text. text_after call state ++ text) (transcript_from-append (step call state).state first second)
+    ∙ sym (append_assoc (text_after call state) (transcript_from (step call state).state first) (transcript_from (state_after (step call state).state first) second))
+
+past_call : (call : Option Call) (done : ℕ) (later : Verdict) → IsSome call → verdict_after call done later ≡ later
+past_call None done later is = cc
+past_call (Some call) done later is = refl
+
+pub verdict_from-append : (done : ℕ) (first second : List (List ℕ)) (rest : List ℕ) (over : Bool) → AreCalls first → verdict_from done (first ++ second) rest over ≡ verdict_from (done + length first) second rest over
+verdict_from-append done [] second rest over each = let same : done ≡ done + 0 = omega arith in ap (λ n. verdict_from n second rest over) same
+verdict_from-append done (line ∷ first) second rest over each =
+    let same : (done + 1) + length first ≡ done + length (line ∷ first) = omega arith in
+    past_call (call_of line) done (verdict_from (done + 1) (first ++ second) rest over) each.0
+    ∙ verdict_from-append (done + 1) first second rest over each.1
+    ∙ ap (λ n. verdict_from n second rest over) same
+
+pub verdict_of_calls : (lines : List (List ℕ)) (rest : List ℕ) (over : Bool) → AreCalls lines → verdict_from 0 lines rest over ≡ verdict_at_end (length lines) rest over
+verdict_of_calls lines rest over each =
+    let same : 0 + length lines ≡ length lines = omega arith in
+    ap (λ l. verdict_from 0 l rest over) (sym (append-nil lines)) ∙ verdict_from-append 0 lines [] rest over each ∙ ap (λ n. verdict_at_end n rest over) same
+
+-- where the next line stands for no call
+no_call_at : (line : List ℕ) (later : List Call) → call_of line ≡ None → calls_from (call_of line) later ≡ []
+no_call_at line later is = ap (λ call. calls_from call later) is
+
+pub calls_until : (lines later : List (List ℕ)) (line : List ℕ) → AreCalls lines → call_of line ≡ None → calls_of (lines ++ line ∷ later) ≡ calls_of lines
+calls_until lines later line each is =
+    calls_of-append lines (line ∷ later) each ∙ ap (λ calls. calls_of lines ++ calls) (no_call_at line (calls_of later) is) ∙ append-nil (calls_of lines)
+
+pub verdict_until : (lines later : List (List ℕ)) (line rest : List ℕ) (over : Bool) → AreCalls lines → call_of line ≡ None → verdict_from 0 (lines ++ line ∷ later) rest over ≡ Malformed (length lines + 1)
+verdict_until lines later line rest over each is =
+    let same : (0 + length lines) + 1 ≡ length lines + 1 = omega arith in
+    verdict_from-append 0 lines (line ∷ later) rest over each
+    ∙ ap (λ call. verdict_after call (0 + length lines) (verdict_from ((0 + length lines) + 1) later rest over)) is
+    ∙ ap (λ n. Malformed n) same
+
+-- where it stands for one
+one_call : (line : List ℕ) (call : Call) → call_of line ≡ Some call → calls_of (line ∷ []) ≡ call ∷ []
+one_call line call is = ap (λ found. calls_from found []) is
+
+pub calls_with : (lines : List (List ℕ)) (line : List ℕ) (call : Call) → AreCalls lines → call_of line ≡ Some call → calls_of (lines ++ line ∷ []) ≡ calls_of lines ++ call ∷ []
+calls_with lines line call each is = calls_of-append lines (line ∷ []) each ∙ ap (λ calls. calls_of lines ++ calls) (one_call line call is)
+
+pub are_calls-with : (lines : List (List ℕ)) (line : List ℕ) (call : Call) → AreCalls lines → call_of line ≡ Some call → AreCalls (lines ++ line ∷ [])
+are_calls-with lines line call each is = are_calls-append lines (line ∷ []) each (rw is refl, tt)
+
+pub state_with : (calls : List Call) (call : Call) → state_after [] (calls ++ call ∷ []) ≡ (step call (state_after [] calls)).state
+state_with calls call = state_after-append [] calls (call ∷ [])
+
+pub transcript_with : (calls : List Call) (call : Call) → transcript (calls ++ call ∷ []) ≡ transcript calls ++ text_after call (state_after [] calls)
+transcript_with calls call =
+    transcript_from-append [] calls (call ∷ []) ∙ ap (λ text. transcript calls ++ text) (append-nil (text_after call (state_after [] calls)))
+
+-- the transcript of bytes begins with that of their front
+pub transcript_more : (given more : List ℕ) → AreCalls (lines_of given) → (later : List ℕ) × (transcript (calls_of (lines_of (given ++ more))) ≡ transcript (calls_of (lines_of given)) ++ later)
+transcript_more given more each = (
+  transcript_from (state_after [] (calls_of (lines_of given))) (calls_of (lines_of (rest_of given ++ more))),
+  ap (λ lines. transcript (calls_of lines)) (lines_of-append given more)
+      ∙ ap transcript (calls_of-append (lines_of given) (lines_of (rest_of given ++ more)) each)
+      ∙ transcript_from-append [] (calls_of (lines_of given)) (calls_of (lines_of (rest_of given ++ more))),
+)
