@@ -6,13 +6,14 @@ use Rattle.band_play.specs.declared.fault.PlayFault.TheVariants as faults
 use Rattle.band_play.specs.Script.{Good, Malformed, TooLong}
 use Rattle.band_play.specs.Play.{Comes, AllRead, StopsEarly, WritesFront}
 
--- how many times each device had failed before, and has now
+-- how often each device had failed before, and has now
 pub record Counts : Type 0 where
   pub reads : ℕ
   pub reads_now : ℕ
   pub writes : ℕ
   pub writes_now : ℕ
 
+-- the outcome that it tells, or how far the script came and which device failed
 abbrev pub Answers : Result ℕ PlayFault → ℕ → Option (List ℕ) → Option (List ℕ) → Option (List ℕ) → Option (List ℕ) → Counts → Type 0
 Answers (Ok lines) limit left rest before after counts = Comes (Good lines) limit left before after × AllRead left rest
 Answers (Err (faults.Malformed line)) limit left rest before after counts = Comes (Malformed line) limit left before after

@@ -82,6 +82,7 @@ fn read_piece<'a, S: Source>(
     requires { left < u64.MAX }
     ensures front { IfOk result (λ given. GivesFront given.now (S.left src.old) (S.left src.new)) }
     ensures count { IfOk result (λ given. length given.now ≤ left + 1) }
+    ensures fits { IfOk result (λ given. length given.now ≤ 4096) }
     // Nothing is given only at the end, where the source tells its bytes.
     ensures end { IfOk result (λ given. given.now ≡ [] → IfSome (S.left src.old) (λ bytes. bytes ≡ [])) }
     ensures err { OnErr result (S.left src.new ≡ S.left src.old) }
