@@ -199,21 +199,19 @@ module _ (names : ℕ → ℕ → Tag) (table table' : List ℕ → Option Thing
     both_facts : (entries : List (Entry ℕ)) → AllByRecursion (λ (e : Entry ℕ). table (names place e.name).name ≡ Some (request_at place (names place e.name).mode e)) entries → AllOthers slot entries
         → AllByRecursion (λ (e : Entry ℕ). table' (named_anew place e.name).name ≡ Some (request_at place (named_anew place e.name).mode e)) entries
     both_facts [] each apart = tt
-    both_facts (e ∷ es) each apart =
-        (
-          ap (λ (t : Tag). table' t.name) (anew_other e.name apart.0) ∙ joined_table (names place e.name).name (request_at place (names place e.name).mode e) each.0
+    both_facts (e ∷ es) each apart = (
+      ap (λ (t : Tag). table' t.name) (anew_other e.name apart.0) ∙ joined_table (names place e.name).name (request_at place (names place e.name).mode e) each.0
           ∙ ap (λ (t : Tag). Some (request_at place t.mode e)) (sym (anew_other e.name apart.0)),
-          both_facts es each.1 apart.1,
-        )
+      both_facts es each.1 apart.1,
+    )
 
     joined_requests : AllByRecursion (λ (e : Entry ℕ). table' (named_anew place e.name).name ≡ Some (request_at place (named_anew place e.name).mode e)) (requests joined_sem.line)
     joined_requests =
         rw (requests-join slot n waker sem.line)
         (all_of_both _ (requests sem.line) (record { name = slot; size = n } ∷ [])
-        (both_facts (requests sem.line) here.each_request others)
-        (
+        (both_facts (requests sem.line) here.each_request others) (
           ap (λ (t : Tag). table' t.name) anew_slot ∙ update.here made (bytes_same made made refl)
-          ∙ ap (λ (t : Tag). Some (request_at place t.mode (record { name = slot; size = n }))) (sym anew_slot),
+              ∙ ap (λ (t : Tag). Some (request_at place t.mode (record { name = slot; size = n }))) (sym anew_slot),
           tt,
         ))
 

@@ -1,19 +1,18 @@
 -- A call of an object by its name follows the step of the state.
-use Rattle.std.proofs.Common.{◌≡◌, ℕ, ◌+◌, false, true, List, [], Option, Some, None, Ok, Err, refl, ap, ◌∙◌}
+use Rattle.std.proofs.Common.{◌≡◌, ℕ, ◌+◌, false, true, List, [], Option, Some, None, Ok, refl, ap, ◌∙◌}
 use Rattle.std.specs.List.{slice_get, slice_set}
 use Rattle.band_balance.specs.Line.{is_served, take_permits, give_back, available, drained, overflows, owes_too_much, total}
 use Rattle.std.proofs.Common.{length}
 use Rattle.band_balance.specs.Object.{Object, Kind, Mode, Permit, Turn, Answer, Figures, try_for, release, reduce, drain, status, would_overflow, would_owe_too_much}
 use Rattle.band_balance.specs.Object as answers
 use Rattle.band_play.specs.Objects.{IsSteady, ObjectState, Fits}
-use Rattle.band_sem.specs.declared.refusal.Refusal.{Refusal}
 use Rattle.band_sem.specs.declared.refusal.Refusal.TheVariants as refusals
 use Rattle.band_play.specs.declared.reply.Reply.TheVariants as replies
 use Rattle.band_play.specs.declared.thing.Thing.{Thing}
 use Rattle.band_play.specs.declared.thing.Thing.TheVariants as things
 use Rattle.band_play.specs.Names.{Updated}
 use Rattle.band_play.specs.State.{State, Named, Tag, tag, standing}
-use Rattle.band_play.specs.Step.{Outcome, refused, after_turn, turn_of, turn_at, unless_taken, is_of, calling, calling_for, trying, releasing, reducing, draining, showing, reply_of}
+use Rattle.band_play.specs.Step.{Outcome, refused, after_turn, turn_of, turn_at, unless_taken, is_of, calling_for, trying, releasing, reducing, draining, showing, reply_of}
 use Rattle.band_play.specs.Table.{StandsUnder}
 use Rattle.band_play.specs.Moves.{object_of}
 use Rattle.band_play.proofs.Lists.{cond_false, cond_true}

@@ -1,5 +1,5 @@
 -- The right to write that becomes one to read follows the step of the state.
-use Rattle.std.proofs.Common.{◌≡◌, ℕ, ◌+◌, ◌-◌, ◌≤◌, ◌<◌, List, [], Option, Some, Ok, refl, sym, ap, ◌∙◌, subst, arith}
+use Rattle.std.proofs.Common.{◌≡◌, ℕ, ◌-◌, ◌≤◌, ◌<◌, List, [], Option, Some, refl, sym, ap, ◌∙◌, subst, arith}
 use Rattle.std.specs.List.{slice_get, slice_set}
 use Rattle.band_balance.specs.Line.{Entry, entry_named, rename, give_back, total}
 use Rattle.band_balance.specs.Object.{Object, Kind, Semaphore, Mutex, ReaderWriter, Mode, Read, Write, Turn, Done, turn, replace, downgrade, downgrade_of}
@@ -7,8 +7,7 @@ use Rattle.band_balance.specs.Object as answers
 use Rattle.band_balance.proofs.Rename.{give_back-rename}
 use Rattle.band_balance.proofs.Requests.{requests-give_back}
 use Rattle.band_balance.proofs.Settle.{total-without}
-use Rattle.band_lock.specs.Lock.{IsLock}
-use Rattle.band_play.specs.Objects.{ObjectState, HoldingState, IsSteady, IsLockOf, Fits, shares_of}
+use Rattle.band_play.specs.Objects.{ObjectState, HoldingState, IsSteady, Fits}
 use Rattle.band_play.specs.declared.reply.Reply.TheVariants as replies
 use Rattle.band_play.specs.declared.thing.Thing.{Thing}
 use Rattle.band_play.specs.declared.thing.Thing.TheVariants as things
@@ -17,7 +16,7 @@ use Rattle.band_play.specs.State.{State, Named, Tag, is_tag, tag, standing}
 use Rattle.band_play.specs.Step.{same_mode, turn_of, turn_at, downgrading}
 use Rattle.band_play.specs.Table.{StandsAt, StandsUnder, IsKnown}
 use Rattle.band_play.specs.Moves.{downgraded}
-use Rattle.band_play.proofs.Follow.{Matches, by_turn, kind_of}
+use Rattle.band_play.proofs.Follow.{Matches, by_turn}
 use Rattle.band_play.proofs.Numbers.{line_before}
 use Rattle.band_play.proofs.Permits.{replaced}
 use Rattle.band_play.proofs.Permitting.{on_held_at}

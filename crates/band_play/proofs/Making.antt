@@ -1,12 +1,10 @@
 -- A new object in the table.
-use Rattle.std.proofs.Common.{◌≡◌, ℕ, ◌^◌, ◌<◌, zero, suc, Bool, List, [], ◌∷◌, ◌++◌, Option, Some, None, ◌⊎◌, inl, inr, refl, sym, ap, ◌∙◌, subst, arith, length, length-append, nat_eq}
-use Rattle.std.specs.List.{slice_get, IsDistinct}
+use Rattle.std.proofs.Common.{◌≡◌, ℕ, zero, suc, List, [], ◌∷◌, ◌++◌, Option, Some, None, ◌⊎◌, inl, inr, refl, sym, ap, ◌∙◌, subst, arith, length, length-append}
+use Rattle.std.specs.List.{slice_get}
 use Rattle.std.specs.Str.{bytes_eq}
-use Rattle.std.proofs.lemmas.Int.{ints}
 use Rattle.std.proofs.lemmas.Option.{none-some, same_Some, slice_get_within}
 use Rattle.band_balance.specs.Line.{open_line}
 use Rattle.band_balance.specs.Object.{Object, Kind}
-use Rattle.band_sem.specs.Semaphore.{IsLawful}
 use Rattle.band_play.specs.Objects.{ObjectState, IsSteady}
 use Rattle.band_sem.specs.declared.refusal.Refusal.TheVariants as refusals
 use Rattle.band_play.specs.declared.reply.Reply.TheVariants as replies

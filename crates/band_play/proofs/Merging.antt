@@ -25,7 +25,7 @@ use Rattle.band_play.specs.State.{State, Named, Tag, is_tag, tag, permit_tag, St
 use Rattle.band_play.specs.Step.{Outcome, refused, turn_of, turn_at, same_mode, on_held, unless_absent, merging_held, merging}
 use Rattle.band_play.specs.Table.{StandsUnder, IsKnown}
 use Rattle.band_play.specs.Moves.{held_as, mergeable, mergeable_held}
-use Rattle.band_play.proofs.Lists.{by_bool, cond_true, cond_false, also_at}
+use Rattle.band_play.proofs.Lists.{by_bool, cond_true, cond_false}
 use Rattle.band_play.proofs.Standing.{standing_of}
 use Rattle.band_play.proofs.Follow.{Matches, by_turn, stands_as, kind_of}
 use Rattle.band_play.proofs.Parts.{merges, other_way}

@@ -3,7 +3,7 @@ use Rattle.std.proofs.Common.{◌≡◌, ℕ, Bool, ◌-◌, ◌≤◌, List, []
 use Rattle.std.specs.List.{slice_get, slice_set}
 use Rattle.band_balance.specs.Object.{Object, Mode, Permit, Lock, Read, Write, Turn, forget, split}
 use Rattle.band_balance.specs.Object as answers
-use Rattle.band_balance.specs.Line.{Entry, entry_named}
+use Rattle.band_balance.specs.Line.{entry_named}
 use Rattle.band_play.specs.Objects.{IsSteady, ObjectState, HoldingState, Fits}
 use Rattle.std.proofs.lemmas.Bool.{false≢true}
 use Rattle.band_sem.specs.declared.refusal.Refusal.{Refusal}

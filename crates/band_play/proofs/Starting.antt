@@ -1,5 +1,5 @@
 -- A new object is lawful.
-use Rattle.std.proofs.Common.{◌≡◌, ℕ, ◌^◌, ◌<◌, Bool, [], arith, nat_eq}
+use Rattle.std.proofs.Common.{ℕ, ◌^◌, ◌<◌, Bool, [], arith, nat_eq}
 use Rattle.std.specs.List.{IsDistinct}
 use Rattle.std.proofs.lemmas.Int.{ints}
 use Rattle.band_balance.specs.Line.{open_line}

@@ -1,5 +1,5 @@
 -- What the player has at a place, and what its tokens are: each with the kind of its object, or with the mode of what it asks for.
-use Rattle.std.specs.Prelude.{◌≡◌, ℕ, ◌+◌, ◌≤◌, Bool, true, false, List}
+use Rattle.std.specs.Prelude.{◌≡◌, ℕ}
 use Rattle.band_balance.specs.Line.{Line}
 use Rattle.band_balance.specs.Object.{Kind, Semaphore, Mutex, ReaderWriter, Mode, Permit, Lock, Read, Write}
 use Rattle.band_sem.specs.Semaphore.{SemaphoreState, IsLawful}
@@ -7,7 +7,6 @@ use Rattle.band_sem.specs.Permit.{Permit as Held}
 use Rattle.band_sem.specs.Request.{Request as Asked}
 use Rattle.band_sem.specs.declared.acquire.Stage.{Stage}
 use Rattle.band_lock.specs.Lock.{IsLock}
-use Rattle.band_lock.specs.ReaderWriter.{ReaderWriter as Shared}
 use Rattle.band_play.specs.declared.object.Primitive.{Primitive}
 use Rattle.band_play.specs.declared.object.Primitive.TheVariants as objects
 use Rattle.band_play.specs.declared.request.AnyRequest.{AnyRequest}

@@ -63,8 +63,12 @@ impl Holding {
                 semaphore.drop_permit(permit, steps)
             }
             (AnyHolding::Lock(guard), Primitive::Mutex(mutex)) => mutex.drop_guard(guard, steps),
-            (AnyHolding::Read(access), Primitive::ReaderWriter(lock)) => lock.drop_read(access, steps),
-            (AnyHolding::Write(access), Primitive::ReaderWriter(lock)) => lock.drop_write(access, steps),
+            (AnyHolding::Read(access), Primitive::ReaderWriter(lock)) => lock.drop_read(
+                access, steps,
+            ),
+            (AnyHolding::Write(access), Primitive::ReaderWriter(lock)) => lock.drop_write(
+                access, steps,
+            ),
             (any, _) => Holding { any }.lose(),
         }
     }
@@ -114,7 +118,11 @@ impl Holding {
     }
 
     /// Makes the right to write one to read.
-    pub(crate) fn downgrade_at<L: Ledger>(self, object: &mut Object, steps: &mut Steps<L>) -> Holding
+    pub(crate) fn downgrade_at<L: Ledger>(
+        self,
+        object: &mut Object,
+        steps: &mut Steps<L>,
+    ) -> Holding
         requires mode { self.mode ≡ Write }
         requires number { self.of ≡ object.old.number }
         requires held { self.count ≤ object.old.held }

@@ -51,25 +51,33 @@ impl Request {
         match (&mut self.any, &mut object.primitive) {
             (AnyRequest::Permit(request), Primitive::Semaphore(semaphore)) => {
                 match request.poll_once(semaphore, waker, steps)? {
-                    Poll::Ready(permit) => Ok(Poll::Ready(Holding { any: AnyHolding::Permit(permit) })),
+                    Poll::Ready(permit) => Ok(Poll::Ready(Holding {
+                        any: AnyHolding::Permit(permit),
+                    })),
                     Poll::Pending => Ok(Poll::Pending),
                 }
             }
             (AnyRequest::Lock(request), Primitive::Mutex(mutex)) => {
                 match request.poll_once(mutex, waker, steps)? {
-                    Poll::Ready(guard) => Ok(Poll::Ready(Holding { any: AnyHolding::Lock(guard) })),
+                    Poll::Ready(guard) => Ok(Poll::Ready(Holding {
+                        any: AnyHolding::Lock(guard),
+                    })),
                     Poll::Pending => Ok(Poll::Pending),
                 }
             }
             (AnyRequest::Read(request), Primitive::ReaderWriter(lock)) => {
                 match request.poll_once(lock, waker, steps)? {
-                    Poll::Ready(access) => Ok(Poll::Ready(Holding { any: AnyHolding::Read(access) })),
+                    Poll::Ready(access) => Ok(Poll::Ready(Holding {
+                        any: AnyHolding::Read(access),
+                    })),
                     Poll::Pending => Ok(Poll::Pending),
                 }
             }
             (AnyRequest::Write(request), Primitive::ReaderWriter(lock)) => {
                 match request.poll_once(lock, waker, steps)? {
-                    Poll::Ready(access) => Ok(Poll::Ready(Holding { any: AnyHolding::Write(access) })),
+                    Poll::Ready(access) => Ok(Poll::Ready(Holding {
+                        any: AnyHolding::Write(access),
+                    })),
                     Poll::Pending => Ok(Poll::Pending),
                 }
             }
@@ -92,8 +100,12 @@ impl Request {
                 request.cancel(semaphore, steps)
             }
             (AnyRequest::Lock(request), Primitive::Mutex(mutex)) => request.cancel(mutex, steps),
-            (AnyRequest::Read(request), Primitive::ReaderWriter(lock)) => request.cancel(lock, steps),
-            (AnyRequest::Write(request), Primitive::ReaderWriter(lock)) => request.cancel(lock, steps),
+            (AnyRequest::Read(request), Primitive::ReaderWriter(lock)) => request.cancel(
+                lock, steps,
+            ),
+            (AnyRequest::Write(request), Primitive::ReaderWriter(lock)) => request.cancel(
+                lock, steps,
+            ),
             (any, _) => Request { any }.lose(),
         }
     }

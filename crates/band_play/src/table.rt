@@ -40,12 +40,7 @@ fn object_at(names: &Names, name: &Name) -> Result<u64, Refusal>
 }
 
 /// The place of the object with this name, of which this can be asked.
-fn object_for(
-    names: &Names,
-    objects: &Vec<Object>,
-    name: &Name,
-    want: Want,
-) -> Result<u64, Refusal>
+fn object_for(names: &Names, objects: &Vec<Object>, name: &Name, want: Want) -> Result<u64, Refusal>
     requires { (place : ℕ) → object_of (thing_at names.now name.now) ≡ Ok place → place < length objects.now.items }
     ensures { result ≡ offering (mode_of want) objects.now.items (object_of (thing_at names.now name.now)) }
 {
@@ -207,12 +202,7 @@ impl Table {
     }
 
     /// Makes an object.
-    pub(crate) fn make(
-        &mut self,
-        alloc: Global,
-        made: &Name,
-        new: New,
-    ) -> Result<Reply, AllocError>
+    pub(crate) fn make(&mut self, alloc: Global, made: &Name, new: New) -> Result<Reply, AllocError>
         requires sound { IsSound self.old }
         requires quiet { wakes_left self.old ≡ [] }
         requires readers { IsForReaders new }

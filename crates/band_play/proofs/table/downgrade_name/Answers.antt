@@ -9,8 +9,8 @@ use Rattle.band_balance.specs.Object.{Write}
 use Rattle.band_play.specs.Objects.{ObjectState, HoldingState, IsSteady, Fits}
 use Rattle.band_play.specs.declared.thing.Thing.TheVariants as things
 use Rattle.band_play.specs.Names.{thing_at, Updated}
-use Rattle.band_play.specs.Moves.{IsFit, held_as, downgraded}
-use Rattle.band_play.proofs.Permitting.{permit_from, mode_same, permit_there}
+use Rattle.band_play.specs.Moves.{held_as}
+use Rattle.band_play.proofs.Permitting.{permit_from, permit_there}
 use Rattle.band_play.proofs.Updates.{updated}
 use Rattle.band_play.proofs.table.downgrade_name.Goals as goal
 

@@ -3,7 +3,7 @@ use Rattle.std.specs.List.{slice_get, slice_set}
 use Rattle.std.proofs.lemmas.Option.{slice_get_read}
 use Rattle.band_base.specs.declared.poll.Poll.TheVariants as polls
 use Rattle.band_sem.specs.declared.acquire.Stage.TheVariants.{NotPolled}
-use Rattle.band_play.specs.Objects.{ObjectState, RequestState, Fits, IsSteady}
+use Rattle.band_play.specs.Objects.{RequestState, Fits}
 use Rattle.band_play.specs.Moves.{PollsAs, kind_at, mode_of, size_for}
 use Rattle.band_play.proofs.Called.{set_itself}
 use Rattle.band_play.proofs.Follow.{want_fits, unmoved, ready_answered, pending_answered}

@@ -4,7 +4,6 @@ use Rattle.std.specs.Ordering.{nat_cmp}
 use Rattle.std.specs.Cmp.Lexicographic.{slice_cmp}
 use Rattle.band_play.specs.declared.thing.Thing.TheVariants as things
 use Rattle.band_balance.specs.Object.{Permit}
-use Rattle.band_play.specs.Objects.{HoldingState}
 use Rattle.band_play.specs.Names.{thing_at}
 use Rattle.band_play.specs.Moves.{held_as}
 use Rattle.band_play.proofs.Permitting.{parted, short}

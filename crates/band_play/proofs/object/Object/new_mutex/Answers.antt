@@ -1,4 +1,4 @@
-use Rattle.std.proofs.Common.{arith, lit<, sym, ap, subst}
+use Rattle.std.proofs.Common.{lit<, sym, subst}
 use Rattle.band_sem.specs.Semaphore.{IsLawful, SemaphoreState}
 use Rattle.band_play.proofs.Starting.{lawful_start}
 use Rattle.band_play.proofs.object.Object.new_mutex.Goals as goal

@@ -1,4 +1,4 @@
-use Rattle.std.proofs.Common.{sym, ap, subst}
+use Rattle.std.proofs.Common.{sym, subst}
 use Rattle.band_sem.specs.Semaphore.{IsLawful}
 use Rattle.band_lock.specs.ReaderWriter.{ReaderWriter}
 use Rattle.band_play.proofs.Starting.{lawful_start}

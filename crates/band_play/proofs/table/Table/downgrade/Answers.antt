@@ -1,7 +1,6 @@
-use Rattle.std.proofs.Common.{◌≡◌, Some, refl, sym, ap, ◌∙◌, subst}
+use Rattle.std.proofs.Common.{refl}
 use Rattle.band_balance.specs.Object.{Write}
 use Rattle.band_play.specs.declared.reply.Reply.TheVariants as replies
-use Rattle.band_play.specs.declared.thing.Thing.TheVariants as things
 use Rattle.band_play.specs.Names.{thing_at}
 use Rattle.band_play.specs.State.{standing}
 use Rattle.band_play.specs.Step.{downgrading}

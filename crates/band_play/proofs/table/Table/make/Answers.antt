@@ -1,4 +1,4 @@
-use Rattle.std.proofs.Common.{◌≡◌, length, refl, ap, arith}
+use Rattle.std.proofs.Common.{◌≡◌, length, refl, arith}
 use Rattle.band_play.specs.Moves.{kind_made, count_made, object_made}
 use Rattle.band_play.proofs.Making.{starts_steady}
 use Rattle.band_play.proofs.TableLemmas.{make_takes, make_done, make_sound, stays, same_names, sound_same, none_from, updated_twice, on_err, object_placed, pushed}

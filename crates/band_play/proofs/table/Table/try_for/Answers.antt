@@ -2,7 +2,6 @@ use Rattle.std.proofs.Common.{◌≡◌, Option, Some, true, OnSome, IfSome, IsS
 use Rattle.std.specs.List.{slice_get, slice_set}
 use Rattle.std.specs.Vec.{with_item}
 use Rattle.std.proofs.lemmas.Option.{slice_get_read, same_Some}
-use Rattle.std.proofs.lemmas.Bool.{false≢true}
 use Rattle.band_balance.specs.Line.{take_permits, is_served}
 use Rattle.band_play.specs.Objects.{IsSteady, ObjectState, HoldingState}
 use Rattle.band_sem.specs.declared.refusal.Refusal.TheVariants as refusals
@@ -12,9 +11,9 @@ use Rattle.band_play.specs.Names.{Updated, thing_at}
 use Rattle.band_play.specs.State.{standing}
 use Rattle.band_play.specs.Step.{trying}
 use Rattle.band_play.specs.Moves.{mode_of, size_for}
-use Rattle.band_play.proofs.Called.{refuses, shows, still_sound, call_follows, call_sound, quiet_there, refuted, set_itself}
+use Rattle.band_play.proofs.Called.{refuses, shows, call_follows, call_sound, quiet_there}
 use Rattle.band_play.proofs.Calling.{try_taken, try_follows, try_fails}
-use Rattle.band_play.proofs.Follow.{same_table, calling_for_refused, offered_at, offers_of, want_fits}
+use Rattle.band_play.proofs.Follow.{calling_for_refused, offered_at, offers_of, want_fits}
 use Rattle.band_play.proofs.Sound.{object_in, numbered_in}
 use Rattle.band_play.proofs.TableLemmas.{some_of, some_there, none_from, updated_twice, same_names, stays, sound_same, on_err}
 use Rattle.band_play.proofs.table.Table.try_for.Goals as goal
