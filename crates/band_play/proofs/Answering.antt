@@ -74,6 +74,25 @@ writes_front_of limit given None last before after gives writes = tt
 writes_front_of limit given (Some bytes) None before after gives writes = absurd gives
 writes_front_of limit given (Some bytes) (Some more) before after gives writes = (given, gives, writes)
 
+-- a whole text is a front of it
+whole_front : (text : List ℕ) (before after : Option (List ℕ)) → Adds text before after → AddsFront text before after
+whole_front text before after adds = record { front = text; rest = []; whole = append-nil text; added = adds }
+
+-- what was written so far is a front of the text of what was given so far
+pub front_so_far : (limit left : ℕ) (playing : Playing) (first last before after : Option (List ℕ)) → SoFar limit left playing first last before after → WritesFront limit first last before after
+front_so_far limit left playing first last before after q =
+    let P : List ℕ → Type 0 = λ g. AddsFront (transcript (calls_of (lines_of g))) before after in
+    writes_front_of limit q.given first last before after q.front
+    (subst P (sym (within_limit limit left q.given q.size)) (whole_front _ before after (all_written q.given playing before after q.played)))
+
+-- also once no more was given
+pub front_at_end : (limit left : ℕ) (piece : List ℕ) (playing : Playing) (first mid last before after : Option (List ℕ)) → SoFar limit left playing first mid before after → GivesFront piece mid last → piece ≡ [] → WritesFront limit first last before after
+front_at_end limit left piece playing first mid last before after q gives empty =
+    let P : List ℕ → Type 0 = λ g. AddsFront (transcript (calls_of (lines_of g))) before after in
+    let G : List ℕ → Type 0 = λ g. GivesFront g first last in
+    writes_front_of limit q.given first last before after (subst G (ap (λ p. q.given ++ p) empty ∙ append-nil q.given) (gives_more q.given piece first mid last q.front gives))
+    (subst P (sym (within_limit limit left q.given q.size)) (whole_front _ before after (all_written q.given playing before after q.played)))
+
 none_left : (more : List ℕ) (last : Option (List ℕ)) → IfSome last (λ m. m ≡ []) → last ≡ Some more → more ≡ []
 none_left more None none is = absurd (none-some more is)
 none_left more (Some other) none is = same_Some more other (sym is) ∙ none
@@ -160,8 +179,8 @@ answers_stop (faults.Malformed line) limit given first last before after counts 
     ))
 answers_stop faults.TooLong limit given first last before after counts gives stops = absurd stops
 answers_stop faults.Read limit given first last before after counts gives stops = absurd stops
-answers_stop faults.Write limit given first last before after counts gives stops = (writes_front_of limit given first last before after gives stops.0, stops.1)
-answers_stop faults.NoMemory limit given first last before after counts gives stops = writes_front_of limit given first last before after gives stops
+answers_stop faults.Write limit given first last before after counts gives stops = stops.1
+answers_stop faults.NoMemory limit given first last before after counts gives stops = tt
 
 -- a count that rose after it had not fallen
 rises_in : (fault : PlayFault) (bytes : List ℕ) (before after : Option (List ℕ)) (start old new : ℕ) → start ≤ old → Stops fault bytes before after old new → Stops fault bytes before after start new
@@ -176,6 +195,27 @@ answers_fault fault limit left piece cut old first mid last before between after
     let P : List ℕ → Type 0 = λ g. Stops fault g before after counts.writes counts.writes_now in
     answers_stop fault limit (q.given ++ piece) first last before after counts (gives_more q.given piece first mid last q.front gives)
     (subst P (ap (λ p. q.given ++ p) is ∙ given_within limit left q.given piece q.size) (rises_in fault (q.given ++ cut) before after counts.writes now counts.writes_now kept (stops q.given before q.played)))
+
+front_stop : (fault : PlayFault) (given : List ℕ) (before after : Option (List ℕ)) (old new : ℕ) → Stops fault given before after old new → AddsFront (transcript (calls_of (lines_of given))) before after
+front_stop (faults.Malformed line) given before after old new stops =
+    let P : List ℕ → Type 0 = λ text. AddsFront text before after in
+    subst P (sym (ap (λ g. transcript (calls_of (lines_of g))) (sym (append-nil given)) ∙ stops.1.transcript_is [])) (whole_front stops.0 before after stops.2)
+front_stop faults.TooLong given before after old new stops = absurd stops
+front_stop faults.Read given before after old new stops = absurd stops
+front_stop faults.Write given before after old new stops = stops.0
+front_stop faults.NoMemory given before after old new stops = stops
+
+pub front_fault : (fault : PlayFault) (limit left : ℕ) (piece cut : List ℕ) (old : Playing) (first mid last before between after : Option (List ℕ)) (counted now : ℕ) → SoFar limit left old first mid before between → GivesFront piece mid last → cut ≡ take left piece → StopsInPiece fault cut old between after counted now → WritesFront limit first last before after
+front_fault fault limit left piece cut old first mid last before between after counted now q gives is stops =
+    let P : List ℕ → Type 0 = λ g. AddsFront (transcript (calls_of (lines_of g))) before after in
+    writes_front_of limit (q.given ++ piece) first last before after (gives_more q.given piece first mid last q.front gives)
+    (subst P (ap (λ p. q.given ++ p) is ∙ given_within limit left q.given piece q.size) (front_stop fault (q.given ++ cut) before after counted now (stops q.given before q.played)))
+
+pub front_over : (limit left : ℕ) (piece cut : List ℕ) (old new : Playing) (first mid last before between after : Option (List ℕ)) → SoFar limit left old first mid before between → GivesFront piece mid last → cut ≡ take left piece → PlaysPiece cut old new between after → WritesFront limit first last before after
+front_over limit left piece cut old new first mid last before between after q gives is plays =
+    let P : List ℕ → Type 0 = λ g. AddsFront (transcript (calls_of (lines_of g))) before after in
+    writes_front_of limit (q.given ++ piece) first last before after (gives_more q.given piece first mid last q.front gives)
+    (subst P (ap (λ p. q.given ++ p) is ∙ given_within limit left q.given piece q.size) (whole_front _ before after (all_written (q.given ++ cut) new before after (plays q.given before q.played))))
 
 -- how much was taken
 pub takes_so_far : (limit left n : ℕ) (playing : Playing) (first mid last before after : Option (List ℕ)) → SoFar limit left playing first mid before after → Takes n mid last → n ≤ left + 1 → Takes (limit + 1) first last
@@ -211,7 +251,7 @@ says_outcome (Ok lines) limit first last before after counts says reads writes =
 says_outcome (Err (faults.Malformed line)) limit first last before after counts says reads writes = outcome_of (Malformed line) (Err (faults.Malformed line)) limit first before after refl says
 says_outcome (Err faults.TooLong) limit first last before after counts says reads writes = outcome_of TooLong (Err faults.TooLong) limit first before after refl says
 says_outcome (Err faults.Read) limit first last before after counts says reads writes = absurd (reads says.1)
-says_outcome (Err faults.Write) limit first last before after counts says reads writes = absurd (writes says.1)
+says_outcome (Err faults.Write) limit first last before after counts says reads writes = absurd (writes says)
 says_outcome (Err faults.NoMemory) limit first last before after counts says reads writes = no_memory_of limit first
 
 empty_length : (n : ℕ) → true ≡ (n == 0) → n ≡ 0

@@ -1,30 +1,67 @@
 -- What an exit status says of the answer.
-use Rattle.std.proofs.Common.{◌≡◌, ℕ, ◌⊎◌, inl, inr, List, Option, Some, None, Result, Ok, Err, IfOk, refl, ap, ◌∙◌, arith}
+use Rattle.std.proofs.Common.{◌≡◌, ◌≢◌, ℕ, ◌⊎◌, inl, inr, List, [], ◌∷◌, ◌++◌, Option, Some, None, Result, Err, refl, sym, subst, append-nil, arith}
+use Rattle.band_base.specs.Device.{Adds}
 use Rattle.band_play.specs.declared.fault.PlayFault.{PlayFault}
 use Rattle.band_play.specs.declared.fault.PlayFault.TheVariants as faults
-use Rattle.band_play.specs.Script.{verdict}
-use Rattle.band_play.specs.Play.{status_of, answer_of, Completes, CompletesAs}
+use Rattle.band_play.specs.Script.{calls_within, transcript}
+use Rattle.band_play.specs.Text.{fault_text, usage_text}
+use Rattle.band_play.specs.Play.{AddsFront, WritesFront, Told, ToldText, ToldWith, status_of}
 
-pub ok_of_status : (outcome : Result ℕ PlayFault) (status : ℕ) (P : ℕ → Type 0) → status ≡ status_of outcome → IfOk outcome P → status ≡ 0 → (lines : ℕ) × P lines
-ok_of_status (Ok lines) status P e p is = (lines, p)
-ok_of_status (Err (faults.Malformed line)) status P e p is = absurd (omega arith)
-ok_of_status (Err faults.TooLong) status P e p is = absurd (omega arith)
-ok_of_status (Err faults.Read) status P e p is = absurd (omega arith)
-ok_of_status (Err faults.Write) status P e p is = absurd (omega arith)
-ok_of_status (Err faults.NoMemory) status P e p is = absurd (omega arith)
+-- where nothing was given and nothing written
+adds_none : (written : Option (List ℕ)) → Adds [] written written
+adds_none None = tt
+adds_none (Some bytes) = sym (append-nil bytes)
 
-pub malformed_of_status : (outcome : Result ℕ PlayFault) (status : ℕ) (P : ℕ → Type 0) → status ≡ status_of outcome → ((line : ℕ) → outcome ≡ Err (faults.Malformed line) → P line) → status ≡ 3 → (line : ℕ) × P line
-malformed_of_status (Ok lines) status P e p is = absurd (omega arith)
-malformed_of_status (Err (faults.Malformed line)) status P e p is = (line, p line refl)
-malformed_of_status (Err faults.TooLong) status P e p is = absurd (omega arith)
-malformed_of_status (Err faults.Read) status P e p is = absurd (omega arith)
-malformed_of_status (Err faults.Write) status P e p is = absurd (omega arith)
-malformed_of_status (Err faults.NoMemory) status P e p is = absurd (omega arith)
+pub front_of_none : (limit : ℕ) (left written : Option (List ℕ)) → WritesFront limit left left written written
+front_of_none limit None written = tt
+front_of_none limit (Some bytes) written = ([], refl, record { front = []; rest = transcript (calls_within limit []); whole = refl; added = adds_none written })
 
-told_of_status : (outcome : Result ℕ PlayFault) (status limit : ℕ) (bytes : List ℕ) → status ≡ status_of outcome → (outcome ≡ answer_of (verdict limit bytes)) ⊎ (outcome ≡ Err faults.NoMemory) → CompletesAs limit (Some bytes) status
-told_of_status outcome status limit bytes e (inl is) = inl (e ∙ ap status_of is)
-told_of_status outcome status limit bytes e (inr is) = inr (e ∙ ap status_of is)
+-- how the program is used, told with status 2, or a front of it where there was no memory
+pub told_usage : (status : ℕ) (text : List ℕ) (before after : Option (List ℕ)) (count count_now : ℕ) → text ≡ usage_text ++ 10 ∷ [] → (status ≡ 2) ⊎ (status ≡ 7)
+    → (status ≡ 2 → status ≢ 7 → ToldText text before after count count_now) → AddsFront text before after → ToldWith status before after count count_now
+told_usage status text before after count count_now is which told front = record {
+  usage = λ two. subst (λ (t : List ℕ). ToldText t before after count count_now) is (told two (λ seven. absurd (omega (arith, two, seven))));
+  too_long = λ four. absurd (other which four);
+  read = λ five. absurd (other_five which five);
+  write = λ six. absurd (other_six which six);
+  no_memory = λ seven. (usage_text, inl refl, subst (λ (t : List ℕ). AddsFront t before after) is front);
+}
+  where
+    other : (status ≡ 2) ⊎ (status ≡ 7) → status ≡ 4 → ⊥
+    other (inl two) four = omega (arith, two, four)
+    other (inr seven) four = omega (arith, seven, four)
 
-pub completes_of_status : (outcome : Result ℕ PlayFault) (status limit : ℕ) (left : Option (List ℕ)) → status ≡ status_of outcome → Completes limit left outcome → CompletesAs limit left status
-completes_of_status outcome status limit None e c = tt
-completes_of_status outcome status limit (Some bytes) e c = told_of_status outcome status limit bytes e c
+    other_five : (status ≡ 2) ⊎ (status ≡ 7) → status ≡ 5 → ⊥
+    other_five (inl two) five = omega (arith, two, five)
+    other_five (inr seven) five = omega (arith, seven, five)
+
+    other_six : (status ≡ 2) ⊎ (status ≡ 7) → status ≡ 6 → ⊥
+    other_six (inl two) six = omega (arith, two, six)
+    other_six (inr seven) six = omega (arith, seven, six)
+
+-- status 3 tells the number of the malformed line
+pub malformed_told : (result : Result ℕ PlayFault) (fault : PlayFault) (status : ℕ) (before after : Option (List ℕ)) (count count_now : ℕ) (P : ℕ → Type 0) → result ≡ Err fault
+    → ((line : ℕ) → result ≡ Err (faults.Malformed line) → P line) → (status ≡ status_of (Err fault)) ⊎ (status ≡ 7)
+    → (status ≡ status_of (Err fault) → status ≢ 7 → Told (fault_text fault) before after count count_now)
+    → status ≡ 3 → (line : ℕ) × P line × Told (fault_text (faults.Malformed line)) before after count count_now
+malformed_told result (faults.Malformed line) status before after count count_now P is comes which told three = (line, comes line is, told three (λ seven. absurd (omega (arith, three, seven))))
+malformed_told result faults.TooLong status before after count count_now P is comes which told three = absurd (not_three which three)
+  where
+    not_three : (status ≡ 4) ⊎ (status ≡ 7) → status ≡ 3 → ⊥
+    not_three (inl a) b = omega (arith, a, b)
+    not_three (inr a) b = omega (arith, a, b)
+malformed_told result faults.Read status before after count count_now P is comes which told three = absurd (not_three which three)
+  where
+    not_three : (status ≡ 5) ⊎ (status ≡ 7) → status ≡ 3 → ⊥
+    not_three (inl a) b = omega (arith, a, b)
+    not_three (inr a) b = omega (arith, a, b)
+malformed_told result faults.Write status before after count count_now P is comes which told three = absurd (not_three which three)
+  where
+    not_three : (status ≡ 6) ⊎ (status ≡ 7) → status ≡ 3 → ⊥
+    not_three (inl a) b = omega (arith, a, b)
+    not_three (inr a) b = omega (arith, a, b)
+malformed_told result faults.NoMemory status before after count count_now P is comes which told three = absurd (not_three which three)
+  where
+    not_three : (status ≡ 7) ⊎ (status ≡ 7) → status ≡ 3 → ⊥
+    not_three (inl a) b = omega (arith, a, b)
+    not_three (inr a) b = omega (arith, a, b)

@@ -4,7 +4,7 @@ use Rattle.band_base.specs.Device.{Rose}
 use Rattle.band_play.specs.declared.fault.PlayFault.{PlayFault}
 use Rattle.band_play.specs.declared.fault.PlayFault.TheVariants as faults
 use Rattle.band_play.specs.Script.{Good, Malformed, TooLong}
-use Rattle.band_play.specs.Play.{Comes, AllRead, StopsEarly, WritesFront}
+use Rattle.band_play.specs.Play.{Comes, AllRead, StopsEarly}
 
 -- how often each device had failed before, and has now
 pub record Counts : Type 0 where
@@ -19,8 +19,8 @@ Answers (Ok lines) limit left rest before after counts = Comes (Good lines) limi
 Answers (Err (faults.Malformed line)) limit left rest before after counts = Comes (Malformed line) limit left before after
 Answers (Err faults.TooLong) limit left rest before after counts = Comes TooLong limit left before after
 Answers (Err faults.Read) limit left rest before after counts = StopsEarly limit left rest before after × Rose counts.reads counts.reads_now
-Answers (Err faults.Write) limit left rest before after counts = WritesFront limit left rest before after × Rose counts.writes counts.writes_now
-Answers (Err faults.NoMemory) limit left rest before after counts = WritesFront limit left rest before after
+Answers (Err faults.Write) limit left rest before after counts = Rose counts.writes counts.writes_now
+Answers (Err faults.NoMemory) limit left rest before after counts = Unit {0}
 
 -- the answer at the end of the bytes, once so many lines were played and this is held
 abbrev pub answer_at_end : ℕ → List ℕ → Result ℕ PlayFault

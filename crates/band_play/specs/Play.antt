@@ -1,7 +1,8 @@
 -- What playing a script promises, answer by answer.
-use Rattle.std.specs.Prelude.{◌≡◌, ℕ, ◌≤◌, ◌⊎◌, List, [], ◌++◌, length, Option, Some, None, IsSome, Result, Ok, Err}
+use Rattle.std.specs.Prelude.{◌≡◌, ℕ, ◌≤◌, ◌⊎◌, List, [], ◌∷◌, ◌++◌, length, Option, Some, None, IsSome, Result, Ok, Err}
 use Rattle.std.specs.List.{AllByRecursion}
-use Rattle.band_base.specs.Device.{Adds}
+use Rattle.band_base.specs.Device.{Adds, Rose}
+use Rattle.band_play.specs.Text.{fault_text, usage_text}
 use Rattle.band_play.specs.declared.fault.PlayFault.{PlayFault}
 use Rattle.band_play.specs.declared.fault.PlayFault.TheVariants as faults
 use Rattle.band_play.specs.Grammar.{call_of}
@@ -82,3 +83,27 @@ status_of (Err faults.NoMemory) = 7
 abbrev pub CompletesAs : ℕ → Option (List ℕ) → ℕ → Type 0
 CompletesAs limit None status = Unit {0}
 CompletesAs limit (Some bytes) status = (status ≡ status_of (answer_of (verdict limit bytes))) ⊎ (status ≡ 7)
+
+-- a text was told: all of it, or a front of it and the sink failed
+abbrev pub ToldText : List ℕ → Option (List ℕ) → Option (List ℕ) → ℕ → ℕ → Type 0
+ToldText text before after faults faults_now = Adds text before after ⊎ (AddsFront text before after × Rose faults faults_now)
+
+-- the same of a line
+abbrev pub Told : List ℕ → Option (List ℕ) → Option (List ℕ) → ℕ → ℕ → Type 0
+Told line before after faults faults_now = ToldText (line ++ 10 ∷ []) before after faults faults_now
+
+-- one of the lines that the program tells
+abbrev pub IsTold : List ℕ → Type 0
+IsTold line = (line ≡ usage_text) ⊎ ((fault : PlayFault) × (line ≡ fault_text fault))
+
+-- where there was no memory: a front of one of them was told, if only an empty one
+abbrev pub ToldFront : Option (List ℕ) → Option (List ℕ) → Type 0
+ToldFront before after = (line : List ℕ) × IsTold line × AddsFront (line ++ 10 ∷ []) before after
+
+-- what is told with each status but 0 and 3
+pub record ToldWith (status : ℕ) (before after : Option (List ℕ)) (count count_now : ℕ) : Type 0 where
+  pub usage : status ≡ 2 → Told usage_text before after count count_now
+  pub too_long : status ≡ 4 → Told (fault_text faults.TooLong) before after count count_now
+  pub read : status ≡ 5 → Told (fault_text faults.Read) before after count count_now
+  pub write : status ≡ 6 → Told (fault_text faults.Write) before after count count_now
+  pub no_memory : status ≡ 7 → ToldFront before after

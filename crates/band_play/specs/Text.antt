@@ -3,6 +3,8 @@ use Rattle.std.specs.Prelude.{ℕ, List, [], ◌∷◌, ◌++◌, codes, flat_ma
 use Rattle.std.specs.Fmt.{signed_decimal}
 use Rattle.band_sem.specs.declared.refusal.Refusal.{Refusal}
 use Rattle.band_sem.specs.declared.refusal.Refusal.TheVariants.{Unknown, Kind, Same, Taken, Finished, Other, Overflow, Debt}
+use Rattle.band_play.specs.declared.fault.PlayFault.{PlayFault}
+use Rattle.band_play.specs.declared.fault.PlayFault.TheVariants as faults
 use Rattle.band_play.specs.declared.reply.Reply.{Reply}
 use Rattle.band_play.specs.declared.reply.Reply.TheVariants as replies
 
@@ -34,3 +36,15 @@ wake_line waker = codes "wake " ++ decimal waker ++ 10 ∷ []
 -- the reply's line, then a line for each waker, in order
 abbrev pub text_of : Reply → List ℕ → List ℕ
 text_of reply woken = reply_text reply ++ 10 ∷ [] ++ flat_map wake_line woken
+
+-- why a script was not played to its end
+abbrev pub fault_text : PlayFault → List ℕ
+fault_text (faults.Malformed line) = codes "malformed line " ++ decimal line
+fault_text faults.TooLong = codes "too long"
+fault_text faults.Read = codes "read fault"
+fault_text faults.Write = codes "write fault"
+fault_text faults.NoMemory = codes "no memory"
+
+-- how the program is used
+abbrev pub usage_text : List ℕ
+usage_text = codes "usage: band play | band bulk N"

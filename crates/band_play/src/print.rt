@@ -1,8 +1,8 @@
 //! The lines of a transcript.
 ghost use Rattle.std.specs.Prelude.{◌≡◌, [], ◌∷◌, ◌++◌, OnOk, string_bytes};
-ghost use Rattle.band_play.specs.Text.{refusal_word, reply_text, wake_line};
+ghost use Rattle.band_play.specs.Text.{fault_text, refusal_word, reply_text, wake_line};
 
-use crate::Reply;
+use crate::{PlayFault, Reply};
 use band_base::Waker;
 use band_sem::Refusal;
 use std::alloc::AllocError;
@@ -50,6 +50,19 @@ pub(crate) fn push_wake(out: &mut String, waker: Waker) -> Result<(), AllocError
     ensures { OnOk result (string_bytes out.new ≡ string_bytes out.old ++ wake_line waker.0) }
 {
     writeln!(out, "wake {}", waker.0)
+}
+
+/// Adds the line that tells why a script was not played to its end.
+pub(crate) fn push_fault(out: &mut String, fault: &PlayFault) -> Result<(), AllocError>
+    ensures { OnOk result (string_bytes out.new ≡ string_bytes out.old ++ (fault_text fault.now ++ 10 ∷ [])) }
+{
+    match fault {
+        PlayFault::Malformed(line) => writeln!(out, "malformed line {line}"),
+        PlayFault::TooLong => out.push_str("too long\n"),
+        PlayFault::Read => out.push_str("read fault\n"),
+        PlayFault::Write => out.push_str("write fault\n"),
+        PlayFault::NoMemory => out.push_str("no memory\n"),
+    }
 }
 
 fn word_of(refusal: Refusal) -> &'static str

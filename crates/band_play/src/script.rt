@@ -32,8 +32,8 @@ pub fn play<S: Source, D: Sink, L: Ledger>(
     ensures read { result ≡ Err PlayFault.Read → Rose (S.faults src.old) (S.faults src.new) }
     ensures stops { result ≡ Err PlayFault.Read → StopsEarly limit (S.left src.old) (S.left src.new) (D.written dst.old) (D.written dst.new) }
     ensures write { result ≡ Err PlayFault.Write → Rose (D.faults dst.old) (D.faults dst.new) }
-    ensures front { result ≡ Err PlayFault.Write → WritesFront limit (S.left src.old) (S.left src.new) (D.written dst.old) (D.written dst.new) }
-    ensures no_memory { result ≡ Err PlayFault.NoMemory → WritesFront limit (S.left src.old) (S.left src.new) (D.written dst.old) (D.written dst.new) }
+    // Whatever the answer is.
+    ensures front { WritesFront limit (S.left src.old) (S.left src.new) (D.written dst.old) (D.written dst.new) }
     // Where neither end failed, the answer tells the outcome, or there was no memory.
     ensures completes { (Rose (S.faults src.old) (S.faults src.new) → ⊥) → (Rose (D.faults dst.old) (D.faults dst.new) → ⊥) → Completes limit (S.left src.old) result }
     ensures reads_never_fall { S.faults src.old ≤ S.faults src.new }
@@ -53,6 +53,7 @@ fn play_pieces<S: Source, D: Sink, L: Ledger>(
     requires { limit < u64.MAX }
     ensures answers { Answers result limit (S.left src.old) (S.left src.new) (D.written dst.old) (D.written dst.new)
         (record { reads = S.faults src.old; reads_now = S.faults src.new; writes = D.faults dst.old; writes_now = D.faults dst.new }) }
+    ensures front { WritesFront limit (S.left src.old) (S.left src.new) (D.written dst.old) (D.written dst.new) }
     ensures takes { Takes (limit + 1) (S.left src.old) (S.left src.new) }
     ensures reads_never_fall { S.faults src.old ≤ S.faults src.new }
     ensures writes_never_fall { D.faults dst.old ≤ D.faults dst.new }

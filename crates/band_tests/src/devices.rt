@@ -36,3 +36,17 @@ impl Sink for Lasts {
         Ok(piece.len())
     }
 }
+
+/// A sink that has no memory.
+#[derive(Drop)]
+pub(crate) struct Full;
+
+impl Sink for Full {
+    ghost written = { λ _. None };
+
+    ghost faults = { λ _. 0 };
+
+    fn write(&mut self, _piece: &[u8]) -> Result<usize, SinkError> {
+        Err(SinkError::NoMemory)
+    }
+}

@@ -1,12 +1,13 @@
 use Rattle.band_play.specs.Play.{program_limit}
-use Rattle.band_play.proofs.Statuses.{ok_of_status, malformed_of_status, completes_of_status}
+use Rattle.band_play.proofs.Statuses.{front_of_none, told_usage, malformed_told}
 use Rattle.band_play.proofs.program.run.Goals as goal
 
-pub returns-clause-ok : goal.returns-clause-ok
-returns-clause-ok g c = ok_of_status c.play.result c.status_of.result _ c.status_of.ensures c.play.ensures.ok
+pub returns-then-not-asks_to_play-clause-front : goal.returns-then-not-asks_to_play-clause-front
+returns-then-not-asks_to_play-clause-front g c = front_of_none program_limit (g.S.Source.left c.args.src.now) (g.D.Sink.written c.args.dst.now)
 
-pub returns-clause-malformed : goal.returns-clause-malformed
-returns-clause-malformed g c = malformed_of_status c.play.result c.status_of.result _ c.status_of.ensures c.play.ensures.malformed
+pub returns-then-not-asks_to_play-clause-told : goal.returns-then-not-asks_to_play-clause-told
+returns-then-not-asks_to_play-clause-told g c = told_usage c.tell.result c.as_bytes.result.now _ _ _ _ c.as_bytes.ensures.value c.tell.ensures.status c.tell.ensures.told c.tell.ensures.front
 
-pub returns-clause-completes : goal.returns-clause-completes
-returns-clause-completes g c = λ words reads writes. completes_of_status c.play.result c.status_of.result program_limit (g.S.Source.left c.args.src.now) c.status_of.ensures (c.play.ensures.completes reads writes)
+pub returns-in-Err-clause-malformed : goal.returns-in-Err-clause-malformed
+returns-in-Err-clause-malformed g c =
+    malformed_told c.play.result c.in-Err.fault c.tell_fault.result _ _ _ _ _ c.in-Err.is c.play.ensures.malformed c.tell_fault.ensures.status c.tell_fault.ensures.told

@@ -21,13 +21,7 @@ pub returns-clause-stops : goal.returns-clause-stops
 returns-clause-stops g c = λ is. (says_fault c.play_pieces.result faults.Read _ _ _ _ _ _ c.play_pieces.ensures.answers is).0
 
 pub returns-clause-write : goal.returns-clause-write
-returns-clause-write g c = λ is. (says_fault c.play_pieces.result faults.Write _ _ _ _ _ _ c.play_pieces.ensures.answers is).1
-
-pub returns-clause-front : goal.returns-clause-front
-returns-clause-front g c = λ is. (says_fault c.play_pieces.result faults.Write _ _ _ _ _ _ c.play_pieces.ensures.answers is).0
-
-pub returns-clause-no_memory : goal.returns-clause-no_memory
-returns-clause-no_memory g c = λ is. says_fault c.play_pieces.result faults.NoMemory _ _ _ _ _ _ c.play_pieces.ensures.answers is
+returns-clause-write g c = λ is. says_fault c.play_pieces.result faults.Write _ _ _ _ _ _ c.play_pieces.ensures.answers is
 
 pub returns-clause-completes : goal.returns-clause-completes
 returns-clause-completes g c = λ reads writes. says_outcome c.play_pieces.result _ _ _ _ _ _ c.play_pieces.ensures.answers reads writes

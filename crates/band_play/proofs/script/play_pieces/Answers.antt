@@ -1,7 +1,7 @@
 use Rattle.std.proofs.Common.{◌≤◌, length, ap, length-take, arith}
 use Rattle.std.proofs.lemmas.Result.{err_from_is_err_and}
 use Rattle.band_play.specs.Answers.{Counts}
-use Rattle.band_play.proofs.Answering.{answers_read, answers_end, answers_over, answers_fault, so_far_more, takes_so_far, none_in}
+use Rattle.band_play.proofs.Answering.{front_so_far, front_at_end, front_fault, front_over, answers_read, answers_end, answers_over, answers_fault, so_far_more, takes_so_far, none_in}
 use Rattle.band_play.proofs.Devices.{takes_piece}
 use Rattle.band_play.proofs.script.play_pieces.Goals as goal
 
@@ -44,3 +44,18 @@ pieces-preserved g c =
       reads_never_fall = omega (arith, c.read_piece.ensures.never_fall, c.pieces.invariant.reads_never_fall);
       writes_never_fall = omega (arith, c.feed.ensures.never_fall, c.pieces.invariant.writes_never_fall);
     }
+
+pub returns-in_err-given-clause-front : goal.returns-in_err-given-clause-front
+returns-in_err-given-clause-front g c = rw c.in_err-given.ensures.err (front_so_far _ _ c.pieces.playing _ _ _ _ c.pieces.invariant.so_far)
+
+pub returns-then-is_empty-clause-front : goal.returns-then-is_empty-clause-front
+returns-then-is_empty-clause-front g c =
+    front_at_end _ _ c.in_ok-given.given.now c.pieces.playing _ _ _ _ _ c.pieces.invariant.so_far c.in_ok-given.ensures.front (none_in c.in_ok-given.given.now c.if-is_empty.ensures)
+
+pub returns-in_err-feed-clause-front : goal.returns-in_err-feed-clause-front
+returns-in_err-feed-clause-front g c =
+    front_fault c.in_err-feed.field-0.0 _ _ c.in_ok-given.given.now c.within.result.now c.pieces.playing _ _ _ _ _ _ _ _ c.pieces.invariant.so_far c.in_ok-given.ensures.front c.within.ensures c.in_err-feed.ensures.stops
+
+pub returns-then-given-left-clause-front : goal.returns-then-given-left-clause-front
+returns-then-given-left-clause-front g c =
+    front_over _ _ c.in_ok-given.given.now c.within.result.now c.pieces.playing c.feed.new.self _ _ _ _ _ _ c.pieces.invariant.so_far c.in_ok-given.ensures.front c.within.ensures c.in_ok-feed.ensures.plays
