@@ -7,9 +7,11 @@ pub mod Conservation
 pub mod Devices
 pub mod Distinct
 pub mod Downgrading
+pub mod EachObject
 pub mod Excluding
 pub mod Follow
 pub mod GrammarLemmas
+pub mod HeadsWait
 pub mod HeldLemmas
 pub mod LineCuts
 pub mod LineRows

@@ -1,6 +1,7 @@
 //! Laws of scripts.
 ghost use Rattle.std.specs.List.{AllByRecursion};
 ghost use Rattle.std.specs.Prelude.{◌≡◌, List, ℕ, pos, ◌+ℤ◌};
+ghost use Rattle.band_balance.specs.Settled.{HeadWaits};
 ghost use Rattle.band_play.specs.declared.call.Call.{Call as TheCall};
 ghost use Rattle.band_play.specs.Player.{ForReaders};
 ghost use Rattle.band_play.specs.Script.{calls_of};
@@ -22,4 +23,9 @@ pub fn locks_are_for_readers()
 /// After any calls, a held or granted write excludes every other held or granted entry of its lock, and a mutex has at most one.
 pub fn writes_exclude()
     ensures { (calls : List TheCall) → AllByRecursion ForReaders calls → AllByRecursion (λ (named : Named). IsExclusive named.object) (state_after calls) }
+{}
+
+/// After any calls, the first that waits in a line asks for more than is free.
+pub fn heads_wait()
+    ensures { (calls : List TheCall) → AllByRecursion (λ (named : Named). HeadWaits named.object.line.free named.object.line.waiting) (state_after calls) }
 {}
