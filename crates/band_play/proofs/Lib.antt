@@ -1,5 +1,6 @@
 pub mod Answering
 pub mod Asking
+pub mod CallNumbers
 pub mod Called
 pub mod Calling
 pub mod Change
@@ -44,4 +45,5 @@ pub mod Telling
 pub mod Turns
 pub mod Updates
 pub mod Waking
+pub mod Within
 pub mod WordLemmas

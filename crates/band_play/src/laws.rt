@@ -6,6 +6,7 @@ ghost use Rattle.band_play.specs.declared.call.Call.{Call as TheCall};
 ghost use Rattle.band_play.specs.Player.{ForReaders};
 ghost use Rattle.band_play.specs.Script.{calls_of};
 ghost use Rattle.band_play.specs.State.{Named};
+ghost use Rattle.band_play.specs.Bounds.{HasNumbers, IsWithin};
 ghost use Rattle.band_play.specs.Exclusion.{IsExclusive};
 ghost use Rattle.band_play.specs.Conservation.{permits_of, object_named, state_after, brought_in, removed_in};
 
@@ -28,4 +29,15 @@ pub fn writes_exclude()
 /// After any calls, the first that waits in a line asks for more than is free.
 pub fn heads_wait()
     ensures { (calls : List TheCall) → AllByRecursion (λ (named : Named). HeadWaits named.object.line.free named.object.line.waiting) (state_after calls) }
+{}
+
+/// The numbers of permits in the calls of a script are below 2 to the 64th.
+pub fn numbers_fit()
+    ensures { (lines : List (List ℕ)) → AllByRecursion HasNumbers (calls_of lines) }
+{}
+
+/// After any calls with such numbers, what is granted and held of an object is at most the largest count, also with what is
+/// free, and no more than the largest count is owed.
+pub fn no_more_than_all()
+    ensures { (calls : List TheCall) → AllByRecursion ForReaders calls → AllByRecursion HasNumbers calls → AllByRecursion (λ (named : Named). IsWithin named.object) (state_after calls) }
 {}
