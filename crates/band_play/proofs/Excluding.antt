@@ -84,7 +84,7 @@ module _ (kind : Kind) (shares : ℕ) (line : Line Tag) (held : List (Entry Tag)
   whole_alone = each_alone shares (line.granted ++ held) [] (line.granted ++ held) refl tt each_asks (let fits : total (line.granted ++ held) ≤ shares = all_fit in omega arith)
 
 -- two facts of each
-both_of_each : {A : Type 0} (P Q R : A → Type 0) → ((x : A) → P x → Q x → R x) → (xs : List A) → AllByRecursion P xs → AllByRecursion Q xs → AllByRecursion R xs
+pub both_of_each : {A : Type 0} (P Q R : A → Type 0) → ((x : A) → P x → Q x → R x) → (xs : List A) → AllByRecursion P xs → AllByRecursion Q xs → AllByRecursion R xs
 both_of_each P Q R both [] p q = tt
 both_of_each P Q R both (x ∷ xs) p q = (both x p.0 q.0, both_of_each P Q R both xs p.1 q.1)
 

@@ -1,5 +1,6 @@
 pub mod Answering
 pub mod Asking
+pub mod CallNumbers
 pub mod Called
 pub mod Calling
 pub mod Change
@@ -7,9 +8,11 @@ pub mod Conservation
 pub mod Devices
 pub mod Distinct
 pub mod Downgrading
+pub mod EachObject
 pub mod Excluding
 pub mod Follow
 pub mod GrammarLemmas
+pub mod HeadsWait
 pub mod HeldLemmas
 pub mod LineCuts
 pub mod LineRows
@@ -42,4 +45,5 @@ pub mod Telling
 pub mod Turns
 pub mod Updates
 pub mod Waking
+pub mod Within
 pub mod WordLemmas

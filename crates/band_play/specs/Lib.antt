@@ -1,4 +1,5 @@
 pub mod Answers
+pub mod Bounds
 pub mod Conservation
 pub mod Exclusion
 pub mod Faults

@@ -1,10 +1,12 @@
 //! Laws of scripts.
 ghost use Rattle.std.specs.List.{AllByRecursion};
 ghost use Rattle.std.specs.Prelude.{◌≡◌, List, ℕ, pos, ◌+ℤ◌};
+ghost use Rattle.band_balance.specs.Settled.{HeadWaits};
 ghost use Rattle.band_play.specs.declared.call.Call.{Call as TheCall};
 ghost use Rattle.band_play.specs.Player.{ForReaders};
 ghost use Rattle.band_play.specs.Script.{calls_of};
 ghost use Rattle.band_play.specs.State.{Named};
+ghost use Rattle.band_play.specs.Bounds.{HasNumbers, IsWithin};
 ghost use Rattle.band_play.specs.Exclusion.{IsExclusive};
 ghost use Rattle.band_play.specs.Conservation.{permits_of, object_named, state_after, brought_in, removed_in};
 
@@ -22,4 +24,20 @@ pub fn locks_are_for_readers()
 /// After any calls, a held or granted write excludes every other held or granted entry of its lock, and a mutex has at most one.
 pub fn writes_exclude()
     ensures { (calls : List TheCall) → AllByRecursion ForReaders calls → AllByRecursion (λ (named : Named). IsExclusive named.object) (state_after calls) }
+{}
+
+/// After any calls, the first that waits in a line asks for more than is free.
+pub fn heads_wait()
+    ensures { (calls : List TheCall) → AllByRecursion (λ (named : Named). HeadWaits named.object.line.free named.object.line.waiting) (state_after calls) }
+{}
+
+/// The numbers of permits in the calls of a script are below 2 to the 64th.
+pub fn numbers_fit()
+    ensures { (lines : List (List ℕ)) → AllByRecursion HasNumbers (calls_of lines) }
+{}
+
+/// After any calls with such numbers, what is granted and held of an object is at most the largest count, also with what is
+/// free, and no more than the largest count is owed.
+pub fn no_more_than_all()
+    ensures { (calls : List TheCall) → AllByRecursion ForReaders calls → AllByRecursion HasNumbers calls → AllByRecursion (λ (named : Named). IsWithin named.object) (state_after calls) }
 {}
