@@ -25,6 +25,26 @@ fn reads_each_form(rt: HostRuntime) {
             },
         ),
         (
+            "mutex m",
+            Call::Mutex {
+                made: name(&rt, "m"),
+            },
+        ),
+        (
+            "rw l",
+            Call::Rw {
+                made: name(&rt, "l"),
+                n: None,
+            },
+        ),
+        (
+            "rw l 1",
+            Call::Rw {
+                made: name(&rt, "l"),
+                n: Some(1),
+            },
+        ),
+        (
             "ask a s_1 2 7",
             Call::Ask {
                 made: name(&rt, "a"),
@@ -40,6 +60,30 @@ fn reads_each_form(rt: HostRuntime) {
                 of: name(&rt, "eeeeeeeeffffffffgggggggghhhhhhhh"),
                 n: 18446744073709551615,
                 waker: 10000000000000000000,
+            },
+        ),
+        (
+            "lock a m 1",
+            Call::Lock {
+                made: name(&rt, "a"),
+                of: name(&rt, "m"),
+                waker: 1,
+            },
+        ),
+        (
+            "read a l 2",
+            Call::Read {
+                made: name(&rt, "a"),
+                of: name(&rt, "l"),
+                waker: 2,
+            },
+        ),
+        (
+            "write a l 3",
+            Call::Write {
+                made: name(&rt, "a"),
+                of: name(&rt, "l"),
+                waker: 3,
             },
         ),
         (
@@ -61,6 +105,27 @@ fn reads_each_form(rt: HostRuntime) {
                 made: name(&rt, "p"),
                 of: name(&rt, "s"),
                 n: 3,
+            },
+        ),
+        (
+            "trylock g m",
+            Call::TryLock {
+                made: name(&rt, "g"),
+                of: name(&rt, "m"),
+            },
+        ),
+        (
+            "tryread g l",
+            Call::TryRead {
+                made: name(&rt, "g"),
+                of: name(&rt, "l"),
+            },
+        ),
+        (
+            "trywrite g l",
+            Call::TryWrite {
+                made: name(&rt, "g"),
+                of: name(&rt, "l"),
             },
         ),
         (
@@ -103,6 +168,12 @@ fn reads_each_form(rt: HostRuntime) {
             Call::Merge {
                 kept: name(&rt, "p"),
                 spent: name(&rt, "q"),
+            },
+        ),
+        (
+            "downgrade g",
+            Call::Downgrade {
+                name: name(&rt, "g"),
             },
         ),
         (
@@ -152,6 +223,22 @@ fn reads_no_other_line(rt: HostRuntime) {
         "split p 1",
         "merge p",
         "merge p q 1",
+        "mutex",
+        "mutex m 1",
+        "rw",
+        "rw l 0",
+        "rw l 01",
+        "rw l ",
+        "rw l 1 2",
+        "lock a m",
+        "lock a m 1 2",
+        "read a 1",
+        "write a l x",
+        "trylock g",
+        "tryread g l 1",
+        "trywrite g L",
+        "downgrade",
+        "downgrade g 1",
         "status",
     ];
     for line in lines {

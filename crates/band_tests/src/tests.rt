@@ -19,6 +19,12 @@ const REFUSED: &str = "sem s 1\nsem s 1\nask s s 1 1\npoll x 1\ndrop s\nask a s 
 const REFUSED_OUT: &str =
     "ok\nrefused taken\nrefused taken\nrefused unknown\nrefused kind\nready\nrefused finished\n";
 
+const SERVER: &str =
+    "sem conn 2\nmutex log\nrw cfg\nask c1 conn 1 101\nask c2 conn 1 102\nask c3 conn 1 103\nlock g1 log 101\nlock g2 log 102\nread r1 cfg 101\nread r2 cfg 102\nwrite w1 cfg 103\ntryread r3 cfg\ndrop g1\npoll g2 102\ndrop w1\ntryread r3 cfg\ndrop c1\ndrop c3\nstatus conn\nstatus cfg\n";
+
+const SERVER_OUT: &str =
+    "ok\nok\nok\nready\nready\npending\nready\npending\nready\nready\npending\nnone\nok\nwake 102\nready\nok\nok\nok\nwake 103\nok\navailable 1 free 1 waiting 0 granted 0 held 1\navailable 9223372036854775804 free 9223372036854775804 waiting 0 granted 0 held 3\n";
+
 fn play_counted<S: Source, D: Sink, L: Ledger>(
     alloc: Global,
     src: &mut S,
@@ -126,6 +132,37 @@ fn plays_on_amounts(rt: HostRuntime) -> Result<(), Fail> {
     Ok(())
 }
 
+#[test]
+fn plays_on_locks(rt: HostRuntime) -> Result<(), Fail> {
+    let words = play_word(rt.alloc())?;
+    let table = [
+        (SERVER, SERVER_OUT),
+        (
+            "mutex m\nlock a m 1\nlock b m 2\npoll b 9\ndrop a\npoll b 3\npoll b 3\n",
+            "ok\nready\npending\npending\nok\nwake 9\nready\nrefused finished\n",
+        ),
+        (
+            "rw l 3\nwrite w l 1\nread a l 2\nwrite x l 3\nread b l 4\ndowngrade w\ntryread c l\n",
+            "ok\nready\npending\npending\npending\nok\nwake 2\nnone\n",
+        ),
+        (
+            "rw l 1\nwrite w l 1\nread r l 2\ndowngrade w\ndrop w\n",
+            "ok\nready\npending\nok\nok\nwake 2\n",
+        ),
+        (
+            "sem s 1\nsem s 2\nask s s 1 1\nlock a s 1\ndrop s\npoll x 1\nask a s 1 1\nforget a\ndowngrade a\ndrain s 5\n",
+            "ok\nrefused taken\nrefused taken\nrefused kind\nrefused kind\nrefused unknown\nready\nok\nrefused unknown\ndrained 0\n",
+        ),
+    ];
+    for (script, written) in table {
+        let mut dst = BytesOut::new(rt.alloc());
+        let mut src = BytesIn::new(script.as_bytes());
+        assert_eq!(rt; run_on(rt.alloc(), &words, &mut src, &mut dst), 0);
+        assert_eq!(rt; dst.bytes(), written.as_bytes());
+    }
+    Ok(())
+}
+
 /// A script on which tasks wait and are woken at once, and its transcript.
 #[derive(Drop)]
 struct Burst {
@@ -182,6 +219,20 @@ fn plays_in_any_pieces(rt: HostRuntime) -> Result<(), Fail> {
 }
 
 #[test]
+fn plays_a_start_in_any_pieces(rt: HostRuntime) -> Result<(), Fail> {
+    for gives in [1, 7, 4096] {
+        for takes in [1, 3, usize::MAX] {
+            let mut src = FailingIn::new(SERVER.as_bytes(), gives, &[]);
+            let mut dst = FailingOut::new(rt.alloc(), takes, &[]);
+            let said = play_on(rt.alloc(), &mut src, &mut dst, 1000)?;
+            assert_eq!(rt; said.as_str(), "20 lines");
+            assert_eq!(rt; dst.bytes(), SERVER_OUT.as_bytes());
+        }
+    }
+    Ok(())
+}
+
+#[test]
 fn plays_scripts(rt: HostRuntime) -> Result<(), Fail> {
     let table = [
         ("", 100, "0 lines", ""),
@@ -189,6 +240,7 @@ fn plays_scripts(rt: HostRuntime) -> Result<(), Fail> {
         (STORED, 100, "5 lines", STORED_OUT),
         ("sem s 1\n\n", 100, "malformed line 2", "ok\n"),
         ("sem s 01\n", 100, "malformed line 1", ""),
+        ("rw l 0\n", 100, "malformed line 1", ""),
         ("sem s 1", 100, "malformed line 1", ""),
         ("sem s 1\nsem t 1\n", 8, "too long", "ok\n"),
         ("sem s 1\nsem t 1\n", 16, "2 lines", "ok\nok\n"),
@@ -214,6 +266,8 @@ fn answers_a_status(rt: HostRuntime) -> Result<(), Fail> {
         ("", 0, ""),
         (STORED, 0, STORED_OUT),
         ("sem s 1\n\n", 3, "ok\n"),
+        ("sem s 01\n", 3, ""),
+        ("rw l 0\n", 3, ""),
         ("sem s 1", 3, ""),
     ];
     for (script, status, written) in table {
