@@ -13,7 +13,8 @@ use Rattle.band_base.specs.declared.poll.PollError.TheVariants as errors
 use Rattle.band_sem.specs.Laws.{IsSublist, KeepsOrder, IsBehind, MakesRoomFor, LeavesOthers}
 use Rattle.band_sem.specs.Permit.{Permit}
 use Rattle.band_sem.specs.Request.{Request}
-use Rattle.band_sem.specs.Semaphore.{SemaphoreState, HeadWaits, FirstPoll, LaterPoll, is_slot}
+use Rattle.band_balance.specs.Settled.{HeadWaits}
+use Rattle.band_sem.specs.Semaphore.{SemaphoreState, FirstPoll, LaterPoll, is_slot}
 
 IsSublist-more : (e : Entry ℕ) (xs ys : List (Entry ℕ)) → IsSublist xs ys → IsSublist xs (e ∷ ys)
 IsSublist-more e [] ys h = tt

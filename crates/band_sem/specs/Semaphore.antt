@@ -1,7 +1,8 @@
 -- What a contract sees of a semaphore, and what each call makes of it.
-use Rattle.std.specs.Prelude.{◌≡◌, ℕ, ◌+◌, ◌≤◌, Bool, false, ◌==◌, List, [], ◌∷◌, map, ℤ, pos, neg_ℤ, ◌+ℤ◌, ◌<ℤ◌, ◌≤ℤ◌, IsTrue, Some, None, Result, Ok, Err, nat_eq}
+use Rattle.std.specs.Prelude.{◌≡◌, ℕ, ◌+◌, ◌≤◌, Bool, false, ◌==◌, List, map, ℤ, pos, neg_ℤ, ◌+ℤ◌, ◌≤ℤ◌, IsTrue, Some, None, Result, Ok, Err, nat_eq}
 use Rattle.std.specs.List.{IsDistinct}
-use Rattle.band_balance.specs.Line.{Waiting, Line, requests, total, is_served, take_permits, join, entry_named, poll_granted, poll_waiting, cancel, u64_max}
+use Rattle.band_balance.specs.Line.{Line, requests, total, is_served, take_permits, join, entry_named, poll_granted, poll_waiting, cancel, u64_max}
+use Rattle.band_balance.specs.Settled.{HeadWaits}
 use Rattle.band_base.specs.declared.poll.Poll.{Poll}
 use Rattle.band_base.specs.declared.poll.Poll.TheVariants.{Ready, Pending}
 use Rattle.band_base.specs.declared.poll.PollError.{PollError}
@@ -16,11 +17,6 @@ pub record SemaphoreState : Type 0 where
   pub number : ℕ
   pub line : Line ℕ
   pub held : ℕ
-
--- the first that waits asks for more than is free
-abbrev pub HeadWaits : ℤ → List (Waiting ℕ) → Type 0
-HeadWaits free [] = Unit {0}
-HeadWaits free (first ∷ rest) = free <ℤ pos first.size
 
 -- what holds between any two calls
 pub record IsLawful (line : Line ℕ) (held : ℕ) : Type 0 where

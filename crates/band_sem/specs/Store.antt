@@ -6,7 +6,8 @@ use Rattle.band_balance.specs.Line.{Entry, Waiting, Line, requests, total, is_se
 use Rattle.band_sem.specs.declared.store.Store.{Store}
 use Rattle.band_sem.specs.declared.store.Entrance.{Entrance}
 use Rattle.band_sem.specs.declared.store.Entrance.TheVariants.{Served, Joined}
-use Rattle.band_sem.specs.Semaphore.{SemaphoreState, HeadWaits, is_slot}
+use Rattle.band_balance.specs.Settled.{HeadWaits}
+use Rattle.band_sem.specs.Semaphore.{SemaphoreState, is_slot}
 
 abbrev pub line_of : Store → Line ℕ
 line_of store = record {
