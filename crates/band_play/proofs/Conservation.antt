@@ -16,7 +16,8 @@ use Rattle.band_play.specs.declared.reply.Reply.TheVariants as replies
 use Rattle.band_play.specs.Player.{ForReaders}
 use Rattle.band_play.specs.State.{State, Named, Tag, is_tag, tag, permit_tag, Standing, Absent, AnObject, ARequest, AHolding, standing}
 use Rattle.band_play.specs.Step.{Outcome, refused, after_turn, turn_at, unless_taken, making, asking, polling, dropping, trying, releasing, reducing, draining, showing, held_by, on_held, forgetting, splitting, downgrading, merging_held, merging, most_readers, step}
-use Rattle.band_play.specs.Conservation.{object_named, permits_of, when_done, drained_by, size_of, size_in, held_of, brought, removed, brought_from, removed_from, state_from, brought_in, removed_in, state_after}
+use Rattle.band_play.specs.Conservation.{object_named, permits_of, when_done, drained_by, size_of, size_in, held_of, brought, removed, brought_from, removed_from, brought_in, removed_in}
+use Rattle.band_play.specs.Script.{state_from, state_after}
 use Rattle.band_play.proofs.Lists.{by_bool, cond_true, cond_false, at_set_same}
 use Rattle.band_play.proofs.ObjectNames.{NamesDiffer, holding_now, names_differ-set, names_differ-push, object_named-at, object_named-set_other, object_named-push_other, object_named-none, object_named-push, stands_at, absent_apart}
 use Rattle.band_play.proofs.ObjectPermits.{permits, kept-ask, kept-try_for, kept-poll, kept-drop, kept-status, kept-split, kept-merge, brought-release, removed-reduce, removed-drain, removed-forget}

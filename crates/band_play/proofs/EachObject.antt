@@ -11,7 +11,7 @@ use Rattle.band_play.specs.declared.call.Call.TheVariants as calls
 use Rattle.band_play.specs.declared.reply.Reply.TheVariants as replies
 use Rattle.band_play.specs.State.{State, Named, Tag, tag, permit_tag, is_tag, Standing, Absent, AnObject, ARequest, AHolding, standing}
 use Rattle.band_play.specs.Step.{Outcome, refused, after_turn, turn_at, unless_taken, making, asking, polling, dropping, trying, releasing, reducing, draining, showing, on_held, forgetting, splitting, downgrading, merging_held, merging, most_readers, step}
-use Rattle.band_play.specs.Conservation.{state_from, state_after}
+use Rattle.band_play.specs.Script.{state_from, state_after}
 use Rattle.band_play.proofs.ObjectNames.{each_at, each_set, each_push, holding_now}
 use Rattle.band_play.proofs.Outcomes.{for_turn, for_turn_here, for_new, for_live, for_object, for_mode, for_held}
 

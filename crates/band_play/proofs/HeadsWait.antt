@@ -8,7 +8,7 @@ use Rattle.band_balance.specs.Object.{Object, Turn, Kind, Semaphore, Mutex, Read
 use Rattle.band_balance.specs.Settled.{HeadWaits}
 use Rattle.band_balance.proofs.Settle.{HeadWaits-give_back, HeadWaits-cancel, HeadWaits-take_permits, HeadWaits-poll_granted, HeadWaits-poll_waiting, HeadWaits-join}
 use Rattle.band_play.specs.declared.call.Call.{Call}
-use Rattle.band_play.specs.Conservation.{state_after}
+use Rattle.band_play.specs.Script.{state_after}
 use Rattle.band_play.specs.State.{Named, Tag, is_tag}
 use Rattle.band_play.proofs.EachObject.{RulesKeep, HoldsOfNew, of_each_after, always_new, each_always}
 

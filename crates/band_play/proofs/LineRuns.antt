@@ -5,8 +5,8 @@ use Rattle.band_play.specs.declared.call.Call.{Call}
 use Rattle.band_play.specs.Grammar.{call_of}
 use Rattle.band_play.specs.State.{State}
 use Rattle.band_play.specs.Step.{step}
-use Rattle.band_play.specs.Script.{Verdict, Malformed, verdict_from, verdict_after, verdict_at_end, lines_of, rest_of, calls_of, calls_from, transcript, transcript_from}
-use Rattle.band_play.specs.Lines.{state_after, text_after}
+use Rattle.band_play.specs.Script.{Verdict, Malformed, verdict_from, verdict_after, verdict_at_end, lines_of, rest_of, calls_of, calls_from, transcript, transcript_from, state_from}
+use Rattle.band_play.specs.Lines.{text_after}
 use Rattle.band_play.proofs.LineCuts.{lines_of-append}
 
 abbrev pub AreCalls : List (List ℕ) → Type 0
@@ -26,15 +26,15 @@ calls_of-append (line ∷ first) second each =
     ap (λ calls. calls_from (call_of line) calls) (calls_of-append first second each.1)
     ∙ calls_from-append (call_of line) (calls_of first) (calls_of second) each.0
 
-pub state_after-append : (state : State) (first second : List Call) → state_after state (first ++ second) ≡ state_after (state_after state first) second
-state_after-append state [] second = refl
-state_after-append state (call ∷ first) second = state_after-append (step call state).state first second
+pub state_from-append : (state : State) (first second : List Call) → state_from state (first ++ second) ≡ state_from (state_from state first) second
+state_from-append state [] second = refl
+state_from-append state (call ∷ first) second = state_from-append (step call state).state first second
 
-pub transcript_from-append : (state : State) (first second : List Call) → transcript_from state (first ++ second) ≡ transcript_from state first ++ transcript_from (state_after state first) second
+pub transcript_from-append : (state : State) (first second : List Call) → transcript_from state (first ++ second) ≡ transcript_from state first ++ transcript_from (state_from state first) second
 transcript_from-append state [] second = refl
 transcript_from-append state (call ∷ first) second =
     ap (λ text. text_after call state ++ text) (transcript_from-append (step call state).state first second)
-    ∙ sym (append_assoc (text_after call state) (transcript_from (step call state).state first) (transcript_from (state_after (step call state).state first) second))
+    ∙ sym (append_assoc (text_after call state) (transcript_from (step call state).state first) (transcript_from (state_from (step call state).state first) second))
 
 past_call : (call : Option Call) (done : ℕ) (later : Verdict) → IsSome call → verdict_after call done later ≡ later
 past_call None done later is = cc
@@ -78,17 +78,17 @@ calls_with lines line call each is = calls_of-append lines (line ∷ []) each �
 pub are_calls-with : (lines : List (List ℕ)) (line : List ℕ) (call : Call) → AreCalls lines → call_of line ≡ Some call → AreCalls (lines ++ line ∷ [])
 are_calls-with lines line call each is = are_calls-append lines (line ∷ []) each (rw is refl, tt)
 
-pub state_with : (calls : List Call) (call : Call) → state_after [] (calls ++ call ∷ []) ≡ (step call (state_after [] calls)).state
-state_with calls call = state_after-append [] calls (call ∷ [])
+pub state_with : (calls : List Call) (call : Call) → state_from [] (calls ++ call ∷ []) ≡ (step call (state_from [] calls)).state
+state_with calls call = state_from-append [] calls (call ∷ [])
 
-pub transcript_with : (calls : List Call) (call : Call) → transcript (calls ++ call ∷ []) ≡ transcript calls ++ text_after call (state_after [] calls)
+pub transcript_with : (calls : List Call) (call : Call) → transcript (calls ++ call ∷ []) ≡ transcript calls ++ text_after call (state_from [] calls)
 transcript_with calls call =
-    transcript_from-append [] calls (call ∷ []) ∙ ap (λ text. transcript calls ++ text) (append-nil (text_after call (state_after [] calls)))
+    transcript_from-append [] calls (call ∷ []) ∙ ap (λ text. transcript calls ++ text) (append-nil (text_after call (state_from [] calls)))
 
 -- the transcript of bytes begins with that of their front
 pub transcript_more : (given more : List ℕ) → AreCalls (lines_of given) → (later : List ℕ) × (transcript (calls_of (lines_of (given ++ more))) ≡ transcript (calls_of (lines_of given)) ++ later)
 transcript_more given more each = (
-  transcript_from (state_after [] (calls_of (lines_of given))) (calls_of (lines_of (rest_of given ++ more))),
+  transcript_from (state_from [] (calls_of (lines_of given))) (calls_of (lines_of (rest_of given ++ more))),
   ap (λ lines. transcript (calls_of lines)) (lines_of-append given more)
       ∙ ap transcript (calls_of-append (lines_of given) (lines_of (rest_of given ++ more)) each)
       ∙ transcript_from-append [] (calls_of (lines_of given)) (calls_of (lines_of (rest_of given ++ more))),

@@ -14,7 +14,7 @@ use Rattle.band_play.specs.declared.reply.Reply.TheVariants as replies
 use Rattle.band_play.specs.Player.{ForReaders}
 use Rattle.band_play.specs.State.{State, Named, Tag, tag, permit_tag, is_tag, Standing, Absent, AnObject, ARequest, AHolding, standing}
 use Rattle.band_play.specs.Step.{Outcome, refused, after_turn, turn_at, unless_taken, making, is_of, asking, polling, dropping, trying, releasing, reducing, draining, showing, same_mode, held_by, on_held, forgetting, splitting, downgrading, merging_held, merging, most_readers, step}
-use Rattle.band_play.specs.Conservation.{state_from}
+use Rattle.band_play.specs.Script.{state_from}
 use Rattle.band_play.proofs.ObjectNames.{each_at, each_set, each_push, holding_now}
 use Rattle.band_play.proofs.Outcomes.{modes_same, for_turn, for_turn_here, for_new, for_live, for_object, for_mode, for_held}
 use Rattle.band_play.proofs.Sharing.{IsOrderly, orderly_permits, permit_of, new_mutex_orderly, new_reader_writer_orderly, orderly-ask, orderly-try_for, orderly-poll, orderly-drop, orderly-status, orderly-downgrade}

@@ -10,9 +10,9 @@ use Rattle.band_play.specs.declared.playing.Playing.{Playing}
 use Rattle.band_play.specs.Faults.{fault_of}
 use Rattle.band_play.specs.Grammar.{call_of}
 use Rattle.band_play.specs.Player.{StandsFor}
-use Rattle.band_play.specs.Script.{Malformed, verdict_from, lines_of, rest_of, calls_of, transcript}
+use Rattle.band_play.specs.Script.{Malformed, verdict_from, lines_of, rest_of, calls_of, transcript, state_from}
 use Rattle.band_play.specs.Play.{AddsFront}
-use Rattle.band_play.specs.Lines.{HasNoNewline, Tells, state_after, text_after}
+use Rattle.band_play.specs.Lines.{HasNoNewline, Tells, text_after}
 use Rattle.band_play.specs.Playing.{HasRun, HasPlayed, IsMalformedAt, RunsPiece, PlaysPiece, Stops, StopsInPiece}
 use Rattle.band_play.proofs.Devices.{adds_more, front_after}
 use Rattle.band_play.proofs.HeldLemmas.{take_again}
@@ -29,15 +29,15 @@ line_run given front end call old new run none is tells next emptied =
     let line = rest_of given ++ end in
     let lines : lines_of (given ++ (end ++ 10 ∷ [])) ≡ lines_of given ++ line ∷ [] = lines_of-end given end [] none in
     let calls : calls_of (lines_of given ++ line ∷ []) ≡ calls_of (lines_of given) ++ call ∷ [] = calls_with (lines_of given) line call run.each is in
-    let told = tells (state_after [] (calls_of (lines_of given))) run.state in
+    let told = tells (state_from [] (calls_of (lines_of given))) run.state in
     let P : List (List ℕ) → Type 0 = λ l. AreCalls l in
     record {
       each = subst P (sym lines) (are_calls-with (lines_of given) line call run.each is);
       count = next ∙ ap (λ n. n + 1) run.count ∙ counted (lines_of given) line ∙ ap (λ l. length l) (sym lines);
-      state = subst (λ s. StandsFor new.player s) (sym (ap (λ l. state_after [] (calls_of l)) lines ∙ ap (λ c. state_after [] c) calls ∙ state_with (calls_of (lines_of given)) call)) told.1;
+      state = subst (λ s. StandsFor new.player s) (sym (ap (λ l. state_from [] (calls_of l)) lines ∙ ap (λ c. state_from [] c) calls ∙ state_with (calls_of (lines_of given)) call)) told.1;
       text =
-          ap (λ t. front ++ t) told.0 ∙ sym (append_assoc front (string_bytes old.text) (text_after call (state_after [] (calls_of (lines_of given)))))
-          ∙ ap (λ t. t ++ text_after call (state_after [] (calls_of (lines_of given)))) run.text
+          ap (λ t. front ++ t) told.0 ∙ sym (append_assoc front (string_bytes old.text) (text_after call (state_from [] (calls_of (lines_of given)))))
+          ∙ ap (λ t. t ++ text_after call (state_from [] (calls_of (lines_of given)))) run.text
           ∙ sym (ap (λ l. transcript (calls_of l)) lines ∙ ap transcript calls ∙ transcript_with (calls_of (lines_of given)) call);
       held = emptied ∙ sym (ap (λ r. take 112 r) (rest_of-end given end [] none));
     }
@@ -53,7 +53,7 @@ rest_run given front more old new run none player text count held =
     record {
       each = subst P (sym lines) run.each;
       count = count ∙ run.count ∙ ap (λ l. length l) (sym lines);
-      state = subst (λ p. StandsFor p (state_after [] (calls_of (lines_of (given ++ more))))) (sym player) (subst (λ s. StandsFor old.player s) (sym (ap (λ l. state_after [] (calls_of l)) lines)) run.state);
+      state = subst (λ p. StandsFor p (state_from [] (calls_of (lines_of (given ++ more))))) (sym player) (subst (λ s. StandsFor old.player s) (sym (ap (λ l. state_from [] (calls_of l)) lines)) run.state);
       text = ap (λ t. front ++ string_bytes t) text ∙ run.text ∙ sym (ap (λ l. transcript (calls_of l)) lines);
       held = held ∙ ap (λ h. take 112 (h ++ more)) run.held ∙ take_again 112 (rest_of given) more ∙ sym (ap (λ r. take 112 r) (rest_of-rest given more none));
     }
@@ -132,7 +132,7 @@ piece_played piece old mid new x y runs adds others emptied given start q =
       run = record {
         each = run.each;
         count = ap (λ p. p.lines) others ∙ run.count;
-        state = subst (λ p. StandsFor p (state_after [] (calls_of (lines_of (given ++ piece))))) (sym (ap (λ p. p.player) others)) run.state;
+        state = subst (λ p. StandsFor p (state_from [] (calls_of (lines_of (given ++ piece))))) (sym (ap (λ p. p.player) others)) run.state;
         text = ap (λ t. (q.front ++ string_bytes mid.text) ++ t) emptied ∙ append-nil (q.front ++ string_bytes mid.text) ∙ run.text;
         held = ap (λ p. p.held) others ∙ run.held;
       };

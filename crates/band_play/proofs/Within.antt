@@ -12,7 +12,8 @@ use Rattle.band_balance.proofs.Requests.{all-weaker}
 use Rattle.band_play.specs.declared.call.Call.{Call}
 use Rattle.band_play.specs.declared.call.Call.TheVariants as calls
 use Rattle.band_play.specs.Bounds.{HasNumbers, IsWithin}
-use Rattle.band_play.specs.Conservation.{state_after, size_of}
+use Rattle.band_play.specs.Conservation.{size_of}
+use Rattle.band_play.specs.Script.{state_after}
 use Rattle.band_play.specs.Grammar.{IsNumber}
 use Rattle.band_play.specs.Player.{ForReaders}
 use Rattle.band_play.specs.State.{Named, Tag, is_tag, permit_tag}

@@ -68,17 +68,9 @@ abbrev pub removed_from : List ℕ → State → List Call → ℕ
 removed_from name state [] = 0
 removed_from name state (call ∷ calls) = removed name call (step call state).reply state + removed_from name (step call state).state calls
 
--- the state that calls leave
-abbrev pub state_from : State → List Call → State
-state_from state [] = state
-state_from state (call ∷ calls) = state_from (step call state).state calls
-
 -- the same over a script
 abbrev pub brought_in : List ℕ → List Call → ℕ
 brought_in name calls = brought_from name [] calls
 
 abbrev pub removed_in : List ℕ → List Call → ℕ
 removed_in name calls = removed_from name [] calls
-
-abbrev pub state_after : List Call → State
-state_after calls = state_from [] calls

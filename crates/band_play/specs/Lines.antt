@@ -13,11 +13,6 @@ use Rattle.band_play.specs.Script.{is_newline}
 abbrev pub HasNoNewline : List ℕ → Type 0
 HasNoNewline bytes = All (λ byte. is_newline byte ≡ false) bytes
 
--- the state that calls from a state come to
-abbrev pub state_after : State → List Call → State
-state_after state [] = state
-state_after state (call ∷ calls) = state_after (step call state).state calls
-
 -- the text that a call's outcome has in the transcript
 abbrev pub text_after : Call → State → List ℕ
 text_after call state = text_of (step call state).reply (step call state).woken

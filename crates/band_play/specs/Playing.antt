@@ -7,15 +7,14 @@ use Rattle.band_play.specs.declared.fault.PlayFault.TheVariants as faults
 use Rattle.band_play.specs.declared.playing.Playing.{Playing}
 use Rattle.band_play.specs.Grammar.{call_of}
 use Rattle.band_play.specs.Player.{StandsFor}
-use Rattle.band_play.specs.Script.{Malformed, verdict_from, lines_of, rest_of, calls_of, transcript}
+use Rattle.band_play.specs.Script.{Malformed, verdict_from, lines_of, rest_of, calls_of, transcript, state_from}
 use Rattle.band_play.specs.Play.{AddsFront}
-use Rattle.band_play.specs.Lines.{state_after}
 
 -- the ended lines of these bytes are run, each stands for a call, and their text is `front` and what is not written yet
 pub record HasRun (given front : List ℕ) (playing : Playing) : Type 0 where
   pub each : AllByRecursion (λ line. IsSome (call_of line)) (lines_of given)
   pub count : playing.lines ≡ length (lines_of given)
-  pub state : StandsFor playing.player (state_after [] (calls_of (lines_of given)))
+  pub state : StandsFor playing.player (state_from [] (calls_of (lines_of given)))
   pub text : front ++ string_bytes playing.text ≡ transcript (calls_of (lines_of given))
   pub held : playing.held ≡ take 112 (rest_of given)
 

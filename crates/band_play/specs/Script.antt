@@ -18,6 +18,15 @@ transcript_from state (call ∷ calls) =
 abbrev pub transcript : List Call → List ℕ
 transcript calls = transcript_from [] calls
 
+-- the state that calls from a state come to
+abbrev pub state_from : State → List Call → State
+state_from state [] = state
+state_from state (call ∷ calls) = state_from (step call state).state calls
+
+-- the state that calls from the empty state come to
+abbrev pub state_after : List Call → State
+state_after calls = state_from [] calls
+
 abbrev pub is_newline : ℕ → Bool
 is_newline byte = byte == 10
 

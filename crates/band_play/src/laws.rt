@@ -4,11 +4,11 @@ ghost use Rattle.std.specs.Prelude.{◌≡◌, List, ℕ, pos, ◌+ℤ◌};
 ghost use Rattle.band_balance.specs.Settled.{HeadWaits};
 ghost use Rattle.band_play.specs.declared.call.Call.{Call as TheCall};
 ghost use Rattle.band_play.specs.Player.{ForReaders};
-ghost use Rattle.band_play.specs.Script.{calls_of};
+ghost use Rattle.band_play.specs.Script.{calls_of, state_after};
 ghost use Rattle.band_play.specs.State.{Named};
 ghost use Rattle.band_play.specs.Bounds.{HasNumbers, IsWithin};
 ghost use Rattle.band_play.specs.Exclusion.{IsExclusive};
-ghost use Rattle.band_play.specs.Conservation.{permits_of, object_named, state_after, brought_in, removed_in};
+ghost use Rattle.band_play.specs.Conservation.{permits_of, object_named, brought_in, removed_in};
 
 /// After any calls, what an object was made with and what was released to it is what is free, granted and held of it, and
 /// what was reduced, drained and forgotten.
