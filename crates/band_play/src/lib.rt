@@ -28,7 +28,9 @@ mod words;
 pub use call::Call;
 pub use fault::PlayFault;
 pub use grammar::{longest_line, one_call, parse_line};
-pub use laws::{heads_wait, locks_are_for_readers, no_more_than_all, numbers_fit, permits_are_kept, writes_exclude};
+pub use laws::{
+    heads_wait, locks_are_for_readers, no_more_than_all, numbers_fit, only_giving_back_wakes, permits_are_kept, wakes_name_the_granted, writes_exclude,
+};
 pub use name::Name;
 pub use player::Player;
 pub use program::run;
