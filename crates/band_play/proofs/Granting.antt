@@ -2,19 +2,19 @@
 use Rattle.std.proofs.Common.{◌≡◌, ℕ, ◌||◌, Bool, true, false, cond, List, [], ◌∷◌, ◌++◌, map, Option, Some, None, refl, sym, ap, ap₂, ◌∙◌, subst, append_assoc, append-nil}
 use Rattle.std.specs.List.{AllByRecursion, filter, list_any}
 use Rattle.std.specs.Str.{bytes_eq}
-use Rattle.std.proofs.lemmas.Bool.{cond_both, or_parts}
+use Rattle.std.proofs.lemmas.Bool.{cond_both, or_parts, false≢true}
 use Rattle.std.proofs.lemmas.List.{map-append}
 use Rattle.std.proofs.lemmas.List.Elements.{filter-append}
 use Rattle.std.proofs.lemmas.List.Folds.{list_any-append}
 use Rattle.band_balance.specs.Line.{Entry, Waiting, Line, entry_of, requests, settle, give_back, add_permits, entry_named, without, without_waiting, poll_granted, withdraw, cancel}
 use Rattle.band_balance.proofs.Rename.{all_of_first, all_of_second}
-use Rattle.band_balance.proofs.Requests.{all-weaker, all-without, requests-poll_granted, requests-cancel, entries-without_waiting, without-append_none}
-use Rattle.band_balance.proofs.Settle.{passed, left, wakers, passed-left, granted-settle, wakes-settle}
+use Rattle.band_balance.proofs.Requests.{all-weaker, all-without, found_is_named, all-not_named, requests-poll_granted, requests-cancel, entries-without_waiting, without-append_none}
+use Rattle.band_balance.proofs.Settle.{passed, left, wakers, passed-left, granted-settle, waiting-settle, wakes-settle}
 use Rattle.band_play.specs.State.{Tag, is_tag, stands_in}
-use Rattle.band_play.specs.Woken.{granted_between}
+use Rattle.band_play.specs.Woken.{granted_between, GrantsAFront}
 use Rattle.band_play.proofs.EachObject.{each_always}
 use Rattle.band_play.proofs.Excluding.{both_of_each}
-use Rattle.band_play.proofs.Lists.{by_bool, or_second}
+use Rattle.band_play.proofs.Lists.{by_bool, or_second, any_from_find}
 use Rattle.band_play.proofs.ObjectNames.{each_push}
 use Rattle.band_play.proofs.Parts.{other_way}
 use Rattle.band_play.proofs.Standing.{same_bytes, bytes_same}
@@ -120,6 +120,26 @@ granted-settled line once =
     (granted-settle line) (sym (passed-left line.free line.waiting))
     ∙ front_granted line.granted front rest (subst (λ (ws : List (Waiting Tag)). Once (line.granted ++ map entry_of ws)) (sym (passed-left line.free line.waiting)) once)
 
+-- nobody leaves who isn't meant
+none_left : (es : List (Entry Tag)) (is : Tag → Bool) → AllByRecursion (λ (e : Entry Tag). is e.name ≡ false) es → without is es ≡ es
+none_left [] is others = refl
+none_left (e ∷ es) is others = rw others.0 (ap (λ (rest : List (Entry Tag)). e ∷ rest) (none_left es is others.1))
+
+none_left_waiting : (ws : List (Waiting Tag)) (is : Tag → Bool) → AllByRecursion (λ (w : Waiting Tag). is w.name ≡ false) ws → without_waiting is ws ≡ ws
+none_left_waiting [] is others = refl
+none_left_waiting (w ∷ ws) is others = rw others.0 (ap (λ (rest : List (Waiting Tag)). w ∷ rest) (none_left_waiting ws is others.1))
+
+-- where nobody leaves and nobody is granted
+pub front_of_none : (line after : Line Tag) → granted_between line after ≡ [] → after.waiting ≡ line.waiting → after.granted ≡ line.granted → GrantsAFront line after
+front_of_none line after none same_waiting same_granted = (
+  (λ tag. false),
+  none_left_waiting line.waiting (λ tag. false) (each_always _ (λ w. refl) line.waiting)
+  ∙ sym (ap₂ (λ (xs ys : List (Waiting Tag)). xs ++ ys) none same_waiting),
+  same_granted ∙ sym (append-nil line.granted)
+  ∙ sym (ap₂ (λ (es : List (Entry Tag)) (ws : List (Waiting Tag)). es ++ map entry_of ws)
+  (none_left line.granted (λ tag. false) (each_always _ (λ e. refl) line.granted)) none),
+)
+
 -- A line with nobody to wake wakes those that it grants now: where permits are given back, and where a request leaves.
 module _ (line : Line Tag) (quiet : line.wakes ≡ []) (once : Once (requests line)) where
   abbrev Wakes : Line Tag → Type 0
@@ -134,6 +154,24 @@ module _ (line : Line Tag) (quiet : line.wakes ≡ []) (once : Once (requests li
   settles_waking settling same_wakes once same_granted =
       wakes-settle settling
       ∙ ap₂ (λ (ws : List ℕ) (granted : List (Waiting Tag)). ws ++ wakers granted) (same_wakes ∙ quiet) (sym (granted-settled settling once) ∙ same_granted)
+
+  -- those that it grants stood in front
+  settles_front : (settling : Line Tag) → Once (requests settling) → filter (is_granted settling) settling.waiting ≡ filter (is_granted settling) line.waiting
+      → (means : Tag → Bool) → without_waiting means line.waiting ≡ settling.waiting → without means line.granted ≡ settling.granted → GrantsAFront line (settle settling)
+  settles_front settling once same_granted means waiting granted =
+      let front : granted_between line (settle settling) ≡ passed settling.free settling.waiting = sym same_granted ∙ granted-settled settling once in (
+        means,
+        waiting ∙ sym (passed-left settling.free settling.waiting)
+        ∙ sym (ap₂ (λ (xs ys : List (Waiting Tag)). xs ++ ys) front (waiting-settle settling)),
+        granted-settle settling
+        ∙ sym (ap₂ (λ (es : List (Entry Tag)) (ws : List (Waiting Tag)). es ++ map entry_of ws) granted front),
+      )
+
+  pub give_back_front : (n : ℕ) → GrantsAFront line (give_back n line)
+  give_back_front n =
+      settles_front (add_permits n line) once refl (λ tag. false)
+      (none_left_waiting line.waiting (λ tag. false) (each_always _ (λ w. refl) line.waiting))
+      (none_left line.granted (λ tag. false) (each_always _ (λ e. refl) line.granted))
 
   pub give_back_wakes : (n : ℕ) → Wakes (give_back n line)
   give_back_wakes n = settles_waking (add_permits n line) refl once refl
@@ -168,18 +206,47 @@ module _ (line : Line Tag) (quiet : line.wakes ≡ []) (once : Once (requests li
       ∙ sym (without-append_none (is_tag name) line.granted (map entry_of line.waiting) there)))
       (once-without (is_tag name) (requests line) once)
 
+  same_without : (name : List ℕ) → entry_named (is_tag name) line.granted ≡ None
+      → filter (is_granted (withdraw None (is_tag name) line)) (without_waiting (is_tag name) line.waiting) ≡ filter (is_granted (withdraw None (is_tag name) line)) line.waiting
+  same_without name there =
+      let settling : Line Tag = withdraw None (is_tag name) line in
+      let gone : stands_in name (settle settling).granted ≡ false =
+      subst (λ (found : Option (Entry Tag)). stands_in name (settle (withdraw found (is_tag name) line)).granted ≡ false) there (leaver_not_granted name) in
+      filter-without_waiting (is_tag name) (is_granted settling) line.waiting
+      (λ w is. subst (λ (n : List ℕ). stands_in n (settle settling).granted ≡ false) (same_bytes name w.name.name is) gone)
+
   withdraw_wakes : (name : List ℕ) (found : Option (Entry Tag)) → entry_named (is_tag name) line.granted ≡ found → Wakes (settle (withdraw found (is_tag name) line))
   withdraw_wakes name (Some entry) there =
       settles_waking (withdraw (Some entry) (is_tag name) line) refl
       (subst Once (sym (requests-poll_granted (is_tag name) line entry there)) (once-without (is_tag name) (requests line) once))
       refl
-  withdraw_wakes name None there =
-      let settling : Line Tag = withdraw None (is_tag name) line in
-      let gone : stands_in name (settle settling).granted ≡ false =
-      subst (λ (found : Option (Entry Tag)). stands_in name (settle (withdraw found (is_tag name) line)).granted ≡ false) there (leaver_not_granted name) in
-      settles_waking settling refl (once_withdrawn name there)
-      (filter-without_waiting (is_tag name) (is_granted settling) line.waiting
-      (λ w is. subst (λ (n : List ℕ). stands_in n (settle settling).granted ≡ false) (same_bytes name w.name.name is) gone))
+  withdraw_wakes name None there = settles_waking (withdraw None (is_tag name) line) refl (once_withdrawn name there) (same_without name there)
 
   pub cancel_wakes : (name : List ℕ) → Wakes (cancel (is_tag name) line)
   cancel_wakes name = withdraw_wakes name (entry_named (is_tag name) line.granted) refl
+
+  -- one that was granted doesn't wait
+  granted_waits_not : (name : List ℕ) (entry : Entry Tag) → entry_named (is_tag name) line.granted ≡ Some entry → AllByRecursion (λ (w : Waiting Tag). bytes_eq name w.name.name ≡ false) line.waiting
+  granted_waits_not name entry there =
+      all-weaker (NotIn line.granted) (λ (w : Waiting Tag). bytes_eq name w.name.name ≡ false)
+      (λ w apart. by_bool (bytes_eq name w.name.name)
+      (λ same.
+      let named : stands_in name line.granted ≡ true =
+      any_from_find (λ (e : Entry Tag). is_tag name e.name) (λ (e : Entry Tag). is_tag name e.name) line.granted entry there (found_is_named (is_tag name) line.granted entry there) in
+      absurd (false≢true (sym apart ∙ ap (λ (n : List ℕ). stands_in n line.granted) (sym (same_bytes name w.name.name same)) ∙ named)))
+      (λ other. other))
+      line.waiting (once_apart line.granted line.waiting once)
+
+  withdraw_front : (name : List ℕ) (found : Option (Entry Tag)) → entry_named (is_tag name) line.granted ≡ found → GrantsAFront line (settle (withdraw found (is_tag name) line))
+  withdraw_front name (Some entry) there =
+      settles_front (withdraw (Some entry) (is_tag name) line)
+      (subst Once (sym (requests-poll_granted (is_tag name) line entry there)) (once-without (is_tag name) (requests line) once))
+      refl (is_tag name)
+      (none_left_waiting line.waiting (is_tag name) (granted_waits_not name entry there))
+      refl
+  withdraw_front name None there =
+      settles_front (withdraw None (is_tag name) line) (once_withdrawn name there) (same_without name there) (is_tag name) refl
+      (none_left line.granted (is_tag name) (all-not_named (is_tag name) line.granted there))
+
+  pub cancel_front : (name : List ℕ) → GrantsAFront line (cancel (is_tag name) line)
+  cancel_front name = withdraw_front name (entry_named (is_tag name) line.granted) refl

@@ -34,6 +34,7 @@ pub mod Permits
 pub mod Permitting
 pub mod Pieces
 pub mod ReaderCalls
+pub mod Refusing
 pub mod Replaced
 pub mod Requests
 pub mod Resized
