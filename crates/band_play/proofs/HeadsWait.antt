@@ -10,7 +10,8 @@ use Rattle.band_balance.proofs.Settle.{HeadWaits-give_back, HeadWaits-cancel, He
 use Rattle.band_play.specs.declared.call.Call.{Call}
 use Rattle.band_play.specs.Script.{state_after}
 use Rattle.band_play.specs.State.{Named, Tag, is_tag}
-use Rattle.band_play.proofs.EachObject.{RulesKeep, HoldsOfNew, of_each_after, always_new, each_always}
+use Rattle.band_play.proofs.EachCall.{OfNew, of_any_new}
+use Rattle.band_play.proofs.EachObject.{RulesKeep, of_each_after, each_always}
 
 abbrev Waits : Object Tag → Type 0
 Waits object = HeadWaits object.line.free object.line.waiting
@@ -57,7 +58,7 @@ module _ (object : Object Tag) (waits : Waits object) where
 
 waits_kept : RulesKeep Waits
 waits_kept = record {
-  asked = λ name n waker object waits. waits-ask object waits name n waker;
+  asked = λ name n waker object fresh waits. waits-ask object waits name n waker;
   tried = λ name n object waits. waits-try_for object waits name n;
   polled = λ name waker object waits. waits-poll_of object waits (entry_named (is_tag name) object.line.granted) name waker;
   dropped = λ name object waits. waits-drop_of object waits (entry_named (is_tag name) object.held) name;
@@ -73,4 +74,4 @@ waits_kept = record {
 
 -- in a new line nobody waits
 pub waits_after : (calls : List Call) → AllByRecursion (λ (named : Named). HeadWaits named.object.line.free named.object.line.waiting) (state_after calls)
-waits_after calls = of_each_after Waits waits_kept calls (each_always (HoldsOfNew Waits) (always_new Waits (λ n. tt) tt (λ max. tt)) calls)
+waits_after calls = of_each_after Waits waits_kept calls (each_always (OfNew Waits) (of_any_new Waits (λ n. tt) tt (λ max. tt)) calls)

@@ -8,10 +8,12 @@ pub mod Conservation
 pub mod Devices
 pub mod Distinct
 pub mod Downgrading
+pub mod EachCall
 pub mod EachObject
 pub mod Excluding
 pub mod Follow
 pub mod GrammarLemmas
+pub mod Granting
 pub mod HeadsWait
 pub mod HeldLemmas
 pub mod LineCuts
@@ -32,6 +34,7 @@ pub mod Permits
 pub mod Permitting
 pub mod Pieces
 pub mod ReaderCalls
+pub mod Refusing
 pub mod Replaced
 pub mod Requests
 pub mod Resized
@@ -44,6 +47,7 @@ pub mod TableLemmas
 pub mod Telling
 pub mod Turns
 pub mod Updates
+pub mod Wakers
 pub mod Waking
 pub mod Within
 pub mod WordLemmas

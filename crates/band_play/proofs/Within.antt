@@ -17,7 +17,8 @@ use Rattle.band_play.specs.Script.{state_after}
 use Rattle.band_play.specs.Grammar.{IsNumber}
 use Rattle.band_play.specs.Player.{ForReaders}
 use Rattle.band_play.specs.State.{Named, Tag, is_tag, permit_tag}
-use Rattle.band_play.proofs.EachObject.{RulesKeep, HoldsOfNew, of_each_after}
+use Rattle.band_play.proofs.EachCall.{OfNew}
+use Rattle.band_play.proofs.EachObject.{RulesKeep, of_each_after}
 use Rattle.band_play.proofs.Excluding.{both_of_each}
 use Rattle.band_play.proofs.ObjectPermits.{permits, total-hold, kept-split, kept-merge, removed-forget}
 use Rattle.band_play.proofs.Orderly.{InOrder, in_order_from}
@@ -266,7 +267,7 @@ module _ (object : Object Tag) (fit : IsFit object) where
 
 fit_kept : RulesKeep IsFit
 fit_kept = record {
-  asked = λ name n waker object fit. fit-ask object fit name n waker;
+  asked = λ name n waker object fresh fit. fit-ask object fit name n waker;
   tried = λ name n object fit. fit-try_for object fit name n;
   polled = λ name waker object fit. fit-poll_of object fit (entry_named (is_tag name) object.line.granted) (is_tag name) waker refl;
   dropped = λ name object fit. fit-drop_of object fit (entry_named (is_tag name) object.held) (is_tag name) refl;
@@ -287,7 +288,7 @@ new_semaphore_fits n small = record { in_hand = omega arith; in_all = omega (ari
 number_fits : (n : ℕ) → IsNumber n → n ≤ u64_max
 number_fits n small = omega arith
 
-new_fits : (call : Call) → HasNumbers call → HoldsOfNew IsFit call
+new_fits : (call : Call) → HasNumbers call → OfNew IsFit call
 new_fits (calls.Sem made n) small = new_semaphore_fits n small
 new_fits (calls.Mutex made) small = tt
 new_fits (calls.Rw made None) small = omega arith
@@ -309,8 +310,8 @@ within_of named is fit =
     record { in_hand = fits.in_hand; in_all = fits.in_all; owed = fits.owed }
 
 -- after any calls
-each_new_fits : (calls : List Call) → AllByRecursion HasNumbers calls → AllByRecursion (HoldsOfNew IsFit) calls
-each_new_fits calls small = all-weaker HasNumbers (HoldsOfNew IsFit) new_fits calls small
+each_new_fits : (calls : List Call) → AllByRecursion HasNumbers calls → AllByRecursion (OfNew IsFit) calls
+each_new_fits calls small = all-weaker HasNumbers (OfNew IsFit) new_fits calls small
 
 pub within_after : (calls : List Call) → AllByRecursion ForReaders calls → AllByRecursion HasNumbers calls → AllByRecursion (λ (named : Named). IsWithin named.object) (state_after calls)
 within_after calls for small =

@@ -20,6 +20,7 @@ pub mod State
 pub mod Step
 pub mod Table
 pub mod Text
+pub mod Woken
 pub mod Words
 pub use Rattle.band_balance.specs.Line
 pub use Rattle.band_balance.specs.Object

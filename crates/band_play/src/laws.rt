@@ -1,6 +1,6 @@
 //! Laws of scripts.
 ghost use Rattle.std.specs.List.{AllByRecursion};
-ghost use Rattle.std.specs.Prelude.{◌≡◌, List, ℕ, pos, ◌+ℤ◌};
+ghost use Rattle.std.specs.Prelude.{◌≡◌, List, [], ℕ, true, false, pos, ◌+ℤ◌};
 ghost use Rattle.band_balance.specs.Settled.{HeadWaits};
 ghost use Rattle.band_play.specs.declared.call.Call.{Call as TheCall};
 ghost use Rattle.band_play.specs.Player.{ForReaders};
@@ -8,6 +8,8 @@ ghost use Rattle.band_play.specs.Script.{calls_of, state_after};
 ghost use Rattle.band_play.specs.State.{Named};
 ghost use Rattle.band_play.specs.Bounds.{HasNumbers, IsWithin};
 ghost use Rattle.band_play.specs.Exclusion.{IsExclusive};
+ghost use Rattle.band_play.specs.Step.{step};
+ghost use Rattle.band_play.specs.Woken.{EachGrantsAFront, RefusesWhole, WakesTheGranted, gives_back};
 ghost use Rattle.band_play.specs.Conservation.{permits_of, object_named, brought_in, removed_in};
 
 /// After any calls, what an object was made with and what was released to it is what is free, granted and held of it, and
@@ -40,4 +42,26 @@ pub fn numbers_fit()
 /// free, and no more than the largest count is owed.
 pub fn no_more_than_all()
     ensures { (calls : List TheCall) → AllByRecursion ForReaders calls → AllByRecursion HasNumbers calls → AllByRecursion (λ (named : Named). IsWithin named.object) (state_after calls) }
+{}
+
+/// A call after any calls wakes those that waited before it and are granted after it, in the order of their line, each once and by
+/// the waker that it left last.
+pub fn wakes_name_the_granted()
+    ensures { (calls : List TheCall) → (call : TheCall) → WakesTheGranted (state_after calls) (step call (state_after calls)) }
+{}
+
+/// A call after any calls wakes nobody, unless it is a release, a drop or a downgrade.
+pub fn only_giving_back_wakes()
+    ensures { (calls : List TheCall) → (call : TheCall) → gives_back call ≡ false → (step call (state_after calls)).woken ≡ [] }
+{}
+
+/// Where a call after any calls is a release, a drop or a downgrade, those that it grants stood in front of those that wait still,
+/// where at most one left the line, and they come after those granted before.
+pub fn a_front_is_granted()
+    ensures { (calls : List TheCall) → (call : TheCall) → gives_back call ≡ true → EachGrantsAFront (state_after calls) (step call (state_after calls)).state }
+{}
+
+/// A refused call changes nothing and wakes nobody, in any state.
+pub fn refusals_change_nothing()
+    ensures { (state : List Named) → (call : TheCall) → RefusesWhole state (step call state) }
 {}
