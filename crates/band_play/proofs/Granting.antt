@@ -1,12 +1,13 @@
 -- Who is granted where a line settles, by name: the names of its requests differ.
-use Rattle.std.proofs.Common.{◌≡◌, ℕ, ◌||◌, Bool, true, false, cond, List, [], ◌∷◌, ◌++◌, map, Option, Some, None, refl, sym, ap, ap₂, ◌∙◌, subst, append_assoc, append-nil}
+use Rattle.std.proofs.Common.{◌≡◌, ℕ, ◌||◌, Bool, true, false, cond, List, [], ◌∷◌, ◌++◌, map, Option, Some, None, ℤ, pos, ◌-ℤ◌, ◌<ℤ◌, ◌≤ℤ◌, int_le, arith, refl, sym, ap, ap₂, ◌∙◌, subst, append_assoc, append-nil}
 use Rattle.std.specs.List.{AllByRecursion, filter, list_any}
 use Rattle.std.specs.Str.{bytes_eq}
 use Rattle.std.proofs.lemmas.Bool.{cond_both, or_parts, false≢true}
+use Rattle.std.proofs.lemmas.Int.{ints}
 use Rattle.std.proofs.lemmas.List.{map-append}
 use Rattle.std.proofs.lemmas.List.Elements.{filter-append}
 use Rattle.std.proofs.lemmas.List.Folds.{list_any-append}
-use Rattle.band_balance.specs.Line.{Entry, Waiting, Line, entry_of, requests, settle, give_back, add_permits, entry_named, without, without_waiting, poll_granted, withdraw, cancel}
+use Rattle.band_balance.specs.Line.{Entry, Waiting, Line, entry_of, requests, settle, settle_from, give_back, add_permits, entry_named, without, without_waiting, poll_granted, withdraw, cancel}
 use Rattle.band_balance.proofs.Rename.{all_of_first, all_of_second}
 use Rattle.band_balance.proofs.Requests.{all-weaker, all-without, found_is_named, all-not_named, requests-poll_granted, requests-cancel, entries-without_waiting, without-append_none}
 use Rattle.band_balance.proofs.Settle.{passed, left, wakers, passed-left, granted-settle, waiting-settle, wakes-settle}
@@ -17,6 +18,7 @@ use Rattle.band_play.proofs.Excluding.{both_of_each}
 use Rattle.band_play.proofs.Lists.{by_bool, or_second, any_from_find}
 use Rattle.band_play.proofs.ObjectNames.{each_push}
 use Rattle.band_play.proofs.Parts.{other_way}
+use Rattle.band_play.proofs.Sharing.{settles_unowed}
 use Rattle.band_play.proofs.Standing.{same_bytes, bytes_same}
 
 -- Each name stands once: each later name differs from the first.
@@ -120,6 +122,28 @@ granted-settled line once =
     (granted-settle line) (sym (passed-left line.free line.waiting))
     ∙ front_granted line.granted front rest (subst (λ (ws : List (Waiting Tag)). Once (line.granted ++ map entry_of ws)) (sym (passed-left line.free line.waiting)) once)
 
+-- where permits are owed still once a line has settled, nobody was granted
+owed_passes_none : (free : ℤ) (waiting : List (Waiting Tag)) (granted : List (Entry Tag)) (wakes : List ℕ) → (settle_from free waiting granted wakes).free <ℤ pos 0
+    → passed free waiting ≡ []
+owed_passes_none free [] granted wakes owed = refl
+owed_passes_none free (first ∷ rest) granted wakes owed = go (int_le (pos first.size) free) refl owed
+  where
+    later : Line Tag
+    later = settle_from (free -ℤ pos first.size) rest (granted ++ entry_of first ∷ []) (wakes ++ first.waker ∷ [])
+
+    some_left : (n : ℕ) (z : ℤ) → int_le (pos n) z ≡ true → pos 0 ≤ℤ (z -ℤ pos n)
+    some_left n z fits = grind (arith, ints)
+
+    not_both : (z : ℤ) → pos 0 ≤ℤ z → z <ℤ pos 0 → ⊥
+    not_both z paid owed = omega (arith, ints)
+
+    go : (fits : Bool) → int_le (pos first.size) free ≡ fits
+        → (cond fits later (record { free = free; waiting = first ∷ rest; granted = granted; wakes = wakes })).free <ℤ pos 0
+        → cond fits (first ∷ passed (free -ℤ pos first.size) rest) [] ≡ []
+    go true fits owed =
+        absurd (not_both later.free (settles_unowed (free -ℤ pos first.size) rest (granted ++ entry_of first ∷ []) (wakes ++ first.waker ∷ []) (some_left first.size free fits)) owed)
+    go false waits owed = refl
+
 -- nobody leaves who isn't meant
 none_left : (es : List (Entry Tag)) (is : Tag → Bool) → AllByRecursion (λ (e : Entry Tag). is e.name ≡ false) es → without is es ≡ es
 none_left [] is others = refl
@@ -138,6 +162,7 @@ front_of_none line after none same_waiting same_granted = (
   same_granted ∙ sym (append-nil line.granted)
       ∙ sym (ap₂ (λ (es : List (Entry Tag)) (ws : List (Waiting Tag)). es ++ map entry_of ws)
       (none_left line.granted (λ tag. false) (each_always _ (λ e. refl) line.granted)) none),
+  (λ owed. none),
 )
 
 -- A line with nobody to wake wakes those that it grants now: where permits are given back, and where a request leaves.
@@ -165,6 +190,7 @@ module _ (line : Line Tag) (quiet : line.wakes ≡ []) (once : Once (requests li
             ∙ sym (ap₂ (λ (xs ys : List (Waiting Tag)). xs ++ ys) front (waiting-settle settling)),
         granted-settle settling
             ∙ sym (ap₂ (λ (es : List (Entry Tag)) (ws : List (Waiting Tag)). es ++ map entry_of ws) granted front),
+        (λ owed. front ∙ owed_passes_none settling.free settling.waiting settling.granted settling.wakes owed),
       )
 
   pub give_back_front : (n : ℕ) → GrantsAFront line (give_back n line)

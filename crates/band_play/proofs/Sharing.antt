@@ -52,7 +52,7 @@ less_unowed : (n : ℕ) (z : ℤ) → pos n ≤ℤ z → pos 0 ≤ℤ (z -ℤ po
 less_unowed n z h = omega (arith, ints)
 
 module _ {N : Type 0} where
-  settles_unowed : (free : ℤ) (waiting : List (Waiting N)) (granted : List (Entry N)) (wakes : List ℕ) → pos 0 ≤ℤ free → pos 0 ≤ℤ (settle_from free waiting granted wakes).free
+  pub settles_unowed : (free : ℤ) (waiting : List (Waiting N)) (granted : List (Entry N)) (wakes : List ℕ) → pos 0 ≤ℤ free → pos 0 ≤ℤ (settle_from free waiting granted wakes).free
   settles_unowed free [] granted wakes h = h
   settles_unowed free (first ∷ rest) granted wakes h =
       cond_both (int_le (pos first.size) free) _ _ (λ (line : Line N). pos 0 ≤ℤ line.free)

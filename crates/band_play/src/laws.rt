@@ -56,7 +56,8 @@ pub fn only_giving_back_wakes()
 {}
 
 /// Where a call after any calls is a release, a drop or a downgrade, those that it grants stood in front of those that wait still,
-/// where at most one left the line, and they come after those granted before.
+/// where at most one left the line, and they come after those granted before. It grants nobody where permits are owed still, so
+/// what comes back pays them first.
 pub fn a_front_is_granted()
     ensures { (calls : List TheCall) → (call : TheCall) → gives_back call ≡ true → EachGrantsAFront (state_after calls) (step call (state_after calls)).state }
 {}
