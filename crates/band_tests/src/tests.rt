@@ -1,5 +1,6 @@
 //! Scripts, and what they come to.
 ghost use Rattle.std.specs.Prelude.{◌≡◌, ◌<◌};
+ghost use Rattle.band_play.specs.Player.{ForReaders};
 
 use crate::devices::{Lasts, Measured};
 use band_base::{BytesIn, BytesOut, FailingIn, FailingOut, Sink, Source, Steps};
@@ -470,6 +471,7 @@ fn keeps_what_was_written_before_a_write_fault(rt: HostRuntime) -> Result<(), Fa
 }
 
 fn one_step<L: Ledger>(alloc: Global, call: &Call, blank: Blank) -> Result<bool, AllocError>
+    requires readers { ForReaders call.now }
     requires name { blank.name ≡ L.name }
     requires parts { blank.parts ≡ L.parts }
     requires some { 0 < blank.parts }
