@@ -29,8 +29,9 @@ pub use call::Call;
 pub use fault::PlayFault;
 pub use grammar::{longest_line, one_call, parse_line};
 pub use laws::{
-    a_front_is_granted, heads_wait, locks_are_for_readers, no_more_than_all, numbers_fit, only_giving_back_wakes, permits_are_kept, refusals_change_nothing,
-    wakes_name_the_granted, writes_exclude,
+    a_front_is_granted, heads_wait, locks_are_for_readers, no_more_than_all, numbers_fit,
+    only_giving_back_wakes, permits_are_kept, refusals_change_nothing, wakes_name_the_granted,
+    writes_exclude,
 };
 pub use name::Name;
 pub use player::Player;
