@@ -1,12 +1,12 @@
 -- What each rule of an object keeps, each call keeps of every object of a state.
-use Rattle.std.proofs.Common.{◌≡◌, ℕ, Bool, List, [], ◌∷◌, Some}
-use Rattle.std.specs.List.{AllByRecursion, slice_get}
-use Rattle.band_balance.specs.Object.{Object, Turn}
+use Rattle.std.proofs.Common.{List, [], ◌∷◌}
+use Rattle.std.specs.List.{AllByRecursion}
+use Rattle.band_balance.specs.Object.{Object}
 use Rattle.band_play.specs.declared.call.Call.{Call}
 use Rattle.band_play.specs.State.{State, Named, Tag}
-use Rattle.band_play.specs.Step.{Outcome, after_turn, step}
+use Rattle.band_play.specs.Step.{step}
 use Rattle.band_play.specs.Script.{state_from, state_after}
-use Rattle.band_play.proofs.EachCall.{OfRules, OfNew, made_of, so-step}
+use Rattle.band_play.proofs.EachCall.{OfRules, OfNew, so-step}
 use Rattle.band_play.proofs.ObjectNames.{each_at, each_set, each_push, holding_now}
 
 -- it holds of each object

@@ -1,16 +1,16 @@
 -- Who is granted where a line settles, by name: the names of its requests differ.
-use Rattle.std.proofs.Common.{◌≡◌, ℕ, ◌||◌, Bool, true, false, cond, List, [], ◌∷◌, ◌++◌, map, Option, Some, None, ℤ, pos, ◌-ℤ◌, ◌<ℤ◌, ◌≤ℤ◌, int_le, arith, refl, sym, ap, ap₂, ◌∙◌, subst, append_assoc, append-nil}
-use Rattle.std.specs.List.{AllByRecursion, filter, list_any}
+use Rattle.std.proofs.Common.{◌≡◌, ℕ, ◌||◌, Bool, true, false, cond, List, [], ◌∷◌, ◌++◌, map, Option, Some, None, pos, ℤ, ◌-ℤ◌, ◌<ℤ◌, ◌≤ℤ◌, int_le, arith, refl, sym, ap, ap₂, ◌∙◌, subst, append_assoc, append-nil}
+use Rattle.std.specs.List.{AllByRecursion, filter}
 use Rattle.std.specs.Str.{bytes_eq}
 use Rattle.std.proofs.lemmas.Bool.{cond_both, or_parts, false≢true}
 use Rattle.std.proofs.lemmas.Int.{ints}
 use Rattle.std.proofs.lemmas.List.{map-append}
 use Rattle.std.proofs.lemmas.List.Elements.{filter-append}
 use Rattle.std.proofs.lemmas.List.Folds.{list_any-append}
-use Rattle.band_balance.specs.Line.{Entry, Waiting, Line, entry_of, requests, settle, settle_from, give_back, add_permits, entry_named, without, without_waiting, poll_granted, withdraw, cancel}
+use Rattle.band_balance.specs.Line.{Entry, Waiting, Line, entry_of, requests, settle, settle_from, give_back, add_permits, entry_named, without, without_waiting, withdraw, cancel}
 use Rattle.band_balance.proofs.Rename.{all_of_first, all_of_second}
 use Rattle.band_balance.proofs.Requests.{all-weaker, all-without, found_is_named, all-not_named, requests-poll_granted, requests-cancel, entries-without_waiting, without-append_none}
-use Rattle.band_balance.proofs.Settle.{passed, left, wakers, passed-left, granted-settle, waiting-settle, wakes-settle}
+use Rattle.band_balance.proofs.Settle.{passed, left, wakers, passed-left, requests-settle, granted-settle, waiting-settle, wakes-settle}
 use Rattle.band_play.specs.State.{Tag, is_tag, stands_in}
 use Rattle.band_play.specs.Woken.{granted_between, GrantsAFront}
 use Rattle.band_play.proofs.EachObject.{each_always}
@@ -157,6 +157,8 @@ none_left_waiting (w ∷ ws) is others = rw others.0 (ap (λ (rest : List (Waiti
 pub front_of_none : (line after : Line Tag) → granted_between line after ≡ [] → after.waiting ≡ line.waiting → after.granted ≡ line.granted → GrantsAFront line after
 front_of_none line after none same_waiting same_granted = (
   (λ tag. false),
+  ap₂ (λ (es : List (Entry Tag)) (ws : List (Waiting Tag)). es ++ map entry_of ws) same_granted same_waiting
+      ∙ sym (none_left (requests line) (λ tag. false) (each_always _ (λ e. refl) (requests line))),
   none_left_waiting line.waiting (λ tag. false) (each_always _ (λ w. refl) line.waiting)
       ∙ sym (ap₂ (λ (xs ys : List (Waiting Tag)). xs ++ ys) none same_waiting),
   same_granted ∙ sym (append-nil line.granted)
@@ -182,10 +184,12 @@ module _ (line : Line Tag) (quiet : line.wakes ≡ []) (once : Once (requests li
 
   -- those that it grants stood in front
   settles_front : (settling : Line Tag) → Once (requests settling) → filter (is_granted settling) settling.waiting ≡ filter (is_granted settling) line.waiting
-      → (means : Tag → Bool) → without_waiting means line.waiting ≡ settling.waiting → without means line.granted ≡ settling.granted → GrantsAFront line (settle settling)
-  settles_front settling once same_granted means waiting granted =
+      → (means : Tag → Bool) → requests settling ≡ without means (requests line) → without_waiting means line.waiting ≡ settling.waiting → without means line.granted ≡ settling.granted
+      → GrantsAFront line (settle settling)
+  settles_front settling once same_granted means leaves waiting granted =
       let front : granted_between line (settle settling) ≡ passed settling.free settling.waiting = sym same_granted ∙ granted-settled settling once in (
         means,
+        requests-settle settling ∙ leaves,
         waiting ∙ sym (passed-left settling.free settling.waiting)
             ∙ sym (ap₂ (λ (xs ys : List (Waiting Tag)). xs ++ ys) front (waiting-settle settling)),
         granted-settle settling
@@ -196,6 +200,7 @@ module _ (line : Line Tag) (quiet : line.wakes ≡ []) (once : Once (requests li
   pub give_back_front : (n : ℕ) → GrantsAFront line (give_back n line)
   give_back_front n =
       settles_front (add_permits n line) once refl (λ tag. false)
+      (sym (none_left (requests line) (λ tag. false) (each_always _ (λ e. refl) (requests line))))
       (none_left_waiting line.waiting (λ tag. false) (each_always _ (λ w. refl) line.waiting))
       (none_left line.granted (λ tag. false) (each_always _ (λ e. refl) line.granted))
 
@@ -225,12 +230,13 @@ module _ (line : Line Tag) (quiet : line.wakes ≡ []) (once : Once (requests li
       (λ h. rw (fails w h) refl)
       (λ h. ap (λ (rest : List (Waiting Tag)). cond (p w) (w ∷ rest) rest) (filter-without_waiting is p ws fails))
 
+  requests_withdrawn : (name : List ℕ) → entry_named (is_tag name) line.granted ≡ None → requests (withdraw None (is_tag name) line) ≡ without (is_tag name) (requests line)
+  requests_withdrawn name there =
+      ap (λ (es : List (Entry Tag)). line.granted ++ es) (entries-without_waiting (is_tag name) line.waiting)
+      ∙ sym (without-append_none (is_tag name) line.granted (map entry_of line.waiting) there)
+
   once_withdrawn : (name : List ℕ) → entry_named (is_tag name) line.granted ≡ None → Once (requests (withdraw None (is_tag name) line))
-  once_withdrawn name there =
-      subst Once
-      (sym (ap (λ (es : List (Entry Tag)). line.granted ++ es) (entries-without_waiting (is_tag name) line.waiting)
-      ∙ sym (without-append_none (is_tag name) line.granted (map entry_of line.waiting) there)))
-      (once-without (is_tag name) (requests line) once)
+  once_withdrawn name there = subst Once (sym (requests_withdrawn name there)) (once-without (is_tag name) (requests line) once)
 
   same_without : (name : List ℕ) → entry_named (is_tag name) line.granted ≡ None
       → filter (is_granted (withdraw None (is_tag name) line)) (without_waiting (is_tag name) line.waiting) ≡ filter (is_granted (withdraw None (is_tag name) line)) line.waiting
@@ -268,10 +274,11 @@ module _ (line : Line Tag) (quiet : line.wakes ≡ []) (once : Once (requests li
       settles_front (withdraw (Some entry) (is_tag name) line)
       (subst Once (sym (requests-poll_granted (is_tag name) line entry there)) (once-without (is_tag name) (requests line) once))
       refl (is_tag name)
+      (requests-poll_granted (is_tag name) line entry there)
       (none_left_waiting line.waiting (is_tag name) (granted_waits_not name entry there))
       refl
   withdraw_front name None there =
-      settles_front (withdraw None (is_tag name) line) (once_withdrawn name there) (same_without name there) (is_tag name) refl
+      settles_front (withdraw None (is_tag name) line) (once_withdrawn name there) (same_without name there) (is_tag name) (requests_withdrawn name there) refl
       (none_left line.granted (is_tag name) (all-not_named (is_tag name) line.granted there))
 
   pub cancel_front : (name : List ℕ) → GrantsAFront line (cancel (is_tag name) line)

@@ -1,5 +1,5 @@
 -- A refused call changes nothing and wakes nobody, in any state.
-use Rattle.std.proofs.Common.{◌≡◌, List, refl}
+use Rattle.std.proofs.Common.{◌≡◌, refl}
 use Rattle.band_balance.specs.Object.{Answer, Done, Ready, Pending, Nothing, Drained, Figures}
 use Rattle.band_sem.specs.declared.refusal.Refusal.{Refusal}
 use Rattle.band_play.specs.declared.call.Call.{Call}

@@ -1,20 +1,19 @@
 -- A call wakes those that waited before it and are granted after it, and nobody where it gives nothing back.
-use Rattle.std.proofs.Common.{◌≡◌, ℕ, zero, suc, Bool, true, false, List, [], ◌∷◌, ◌++◌, map, Option, Some, None, refl, sym, ap, ap₂, ◌∙◌, subst, append-nil}
-use Rattle.std.specs.List.{AllByRecursion, slice_get, slice_set}
+use Rattle.std.proofs.Common.{◌≡◌, ℕ, zero, suc, Bool, true, false, List, [], ◌∷◌, ◌++◌, Option, Some, None, refl, sym, ap, ap₂, ◌∙◌, subst, append-nil}
+use Rattle.std.specs.List.{slice_get, slice_set}
 use Rattle.std.specs.Prelude.{nat_le}
 use Rattle.std.proofs.lemmas.Bool.{cond_both}
 use Rattle.std.proofs.lemmas.Option.{same_Some, none-some}
 use Rattle.band_balance.specs.Line.{Entry, Waiting, Line, requests, is_served, take_permits, drained, entry_named, without, join, give_back, cancel, poll_waiting, poll_granted}
-use Rattle.band_balance.specs.Object.{Object, Turn, Answer, Done, Ready, Pending, Nothing, Drained, Kind, Semaphore, Mutex, ReaderWriter, turn, hold, ask, poll_of, try_for, drop_of, status, split_of, merge_of, downgrade_of}
+use Rattle.band_balance.specs.Object.{Object, Turn, Answer, Done, Ready, Pending, Nothing, Drained, Kind, Semaphore, Mutex, ReaderWriter, turn, hold, ask, poll_of, try_for, drop_of, split_of, merge_of, downgrade_of}
 use Rattle.band_balance.proofs.Settle.{wakers}
 use Rattle.band_balance.proofs.Requests.{all-weaker, all-without, requests-join, requests-poll_waiting, requests-poll_granted, requests-give_back, requests-cancel}
-use Rattle.band_sem.specs.declared.refusal.Refusal.{Refusal}
 use Rattle.band_play.specs.declared.call.Call.{Call}
 use Rattle.band_play.specs.Script.{state_from, state_after}
 use Rattle.band_play.specs.State.{State, Named, Tag, is_tag, stands_in}
-use Rattle.band_play.specs.Step.{Outcome, refused, after_turn, step}
+use Rattle.band_play.specs.Step.{Outcome, step}
 use Rattle.band_play.specs.Woken.{granted_between, granted_now, GrantsAFront, EachGrantsAFront, WakesTheGranted, gives_back}
-use Rattle.band_play.proofs.EachCall.{OfRules, OfNew, of_any_new, made_of, so-step}
+use Rattle.band_play.proofs.EachCall.{OfRules, OfNew, of_any_new, so-step}
 use Rattle.band_play.proofs.EachObject.{OfEach}
 use Rattle.band_play.proofs.Granting.{Once, once-without, once-push, none_is, none_stands, NotIn, once_apart, filter_none, front_of_none, give_back_wakes, give_back_front, cancel_wakes, cancel_front}
 use Rattle.band_play.proofs.ObjectNames.{each_at, each_set, each_push, holding_now}

@@ -1,7 +1,7 @@
 -- Whom a call wakes: those that waited before it and are granted after it.
 use Rattle.std.specs.Prelude.{◌≡◌, Bool, true, false, List, [], ◌∷◌, ◌++◌, map, pos, ◌<ℤ◌}
 use Rattle.std.specs.List.{filter}
-use Rattle.band_balance.specs.Line.{Waiting, Line, entry_of, without, without_waiting}
+use Rattle.band_balance.specs.Line.{Waiting, Line, entry_of, requests, without, without_waiting}
 use Rattle.band_sem.specs.declared.refusal.Refusal.{Refusal}
 use Rattle.band_play.specs.declared.call.Call.{Call}
 use Rattle.band_play.specs.declared.call.Call.TheVariants as calls
@@ -23,11 +23,12 @@ granted_now (first ∷ rest) (now ∷ later) = granted_between first.object.line
 abbrev pub WakesTheGranted : State → Outcome → Type 0
 WakesTheGranted state outcome = outcome.woken ≡ map (λ w. w.waker) (granted_now state outcome.state)
 
--- Those granted now stood in front of those that wait still, where at most one left, and they follow those granted before.
--- Where permits are owed still, there are none.
+-- At most one left the line. Those granted now stood in front of those that wait still, and follow those granted before.
+-- Where permits are owed still, nobody is granted.
 abbrev pub GrantsAFront : Line Tag → Line Tag → Type 0
 GrantsAFront before after =
     (left : Tag → Bool)
+    × (requests after ≡ without left (requests before))
     × (without_waiting left before.waiting ≡ granted_between before after ++ after.waiting)
     × (after.granted ≡ without left before.granted ++ map entry_of (granted_between before after))
     × (after.free <ℤ pos 0 → granted_between before after ≡ [])

@@ -55,9 +55,9 @@ pub fn only_giving_back_wakes()
     ensures { (calls : List TheCall) → (call : TheCall) → gives_back call ≡ false → (step call (state_after calls)).woken ≡ [] }
 {}
 
-/// Where a call after any calls is a release, a drop or a downgrade, those that it grants stood in front of those that wait still,
-/// where at most one left the line, and they come after those granted before. It grants nobody where permits are owed still, so
-/// what comes back pays them first.
+/// Where a call after any calls is a release, a drop or a downgrade, at most one leaves a line, and those that it grants stood in
+/// front of those that wait still and follow those granted before. It grants nobody where permits are owed still: what comes back
+/// pays them first.
 pub fn a_front_is_granted()
     ensures { (calls : List TheCall) → (call : TheCall) → gives_back call ≡ true → EachGrantsAFront (state_after calls) (step call (state_after calls)).state }
 {}
