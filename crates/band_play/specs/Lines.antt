@@ -1,5 +1,5 @@
 -- How the lines of a script are told.
-use Rattle.std.specs.Prelude.{◌≡◌, ℕ, false, List, [], ◌∷◌, ◌++◌}
+use Rattle.std.specs.Prelude.{◌≡◌, ℕ, false, List, ◌++◌}
 use Rattle.std.specs.List.{All}
 use Rattle.band_play.specs.declared.call.Call.{Call}
 use Rattle.band_play.specs.declared.player.Player.{Player}
