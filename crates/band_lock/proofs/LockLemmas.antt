@@ -52,8 +52,9 @@ only is (e ∷ es) found there alone = go (is e.name) there alone
     go false there alone = cc
 
 -- what the rest of a lock's facts rest on
-pub is_lock : (max : ℕ) (lock : SemaphoreState) → pos 0 ≤ℤ lock.line.free → lock.line.free +ℤ pos (total lock.line.granted + lock.held) ≡ pos max → Asks (requests lock.line) → IsLock max lock
-is_lock max lock none_owed shares asks = record {
+pub is_lock : (max : ℕ) (lock : SemaphoreState) → 0 < max → pos 0 ≤ℤ lock.line.free → lock.line.free +ℤ pos (total lock.line.granted + lock.held) ≡ pos max → Asks (requests lock.line) → IsLock max lock
+is_lock max lock some none_owed shares asks = record {
+  some = some;
   none_owed = none_owed;
   shares = shares;
   each_asks = asks;
@@ -112,7 +113,7 @@ served_fits n line some served = go (n == 0) (nobody_waits line.waiting) (int_le
 
 pub lock_takes : (max n : ℕ) (lock : SemaphoreState) → 0 < n → is_served n lock.line ≡ true → IsLock max lock → IsLock max (record lock { line = take_permits n lock.line; held = lock.held + n })
 lock_takes max n lock some served is =
-    is_lock max _ (left n lock.line.free (served_fits n lock.line some served)) (same n lock.line.free (total lock.line.granted) lock.held is.shares) is.each_asks
+    is_lock max _ is.some (left n lock.line.free (served_fits n lock.line some served)) (same n lock.line.free (total lock.line.granted) lock.held is.shares) is.each_asks
   where
     left : (n : ℕ) (z : ℤ) → pos n ≤ℤ z → pos 0 ≤ℤ (z -ℤ pos n)
     left n z h = omega (arith, ints)
@@ -122,11 +123,11 @@ lock_takes max n lock some served is =
 
 pub lock_joins : (max slot n waker : ℕ) (lock : SemaphoreState) → 0 < n → IsLock max lock → IsLock max (record lock { line = join slot n waker lock.line })
 lock_joins max slot n waker lock some is =
-    is_lock max _ is.none_owed is.shares (all-requests-join (λ (e : Entry ℕ). 0 < e.size) slot n waker lock.line is.each_asks some)
+    is_lock max _ is.some is.none_owed is.shares (all-requests-join (λ (e : Entry ℕ). 0 < e.size) slot n waker lock.line is.each_asks some)
 
 pub lock_gives_back : (max n : ℕ) (lock : SemaphoreState) → n ≤ lock.held → IsLock max lock → IsLock max (record lock { line = give_back n lock.line; held = lock.held - n })
 lock_gives_back max n lock held is =
-    is_lock max _
+    is_lock max _ is.some
     (settles_unowed (lock.line.free +ℤ pos n) lock.line.waiting lock.line.granted lock.line.wakes (more n lock.line.free is.none_owed))
     (same n lock.line.free (give_back n lock.line).free (total lock.line.granted) (total (give_back n lock.line).granted) lock.held held (free-total-give_back n lock.line) is.shares)
     (all-requests-give_back (λ (e : Entry ℕ). 0 < e.size) n lock.line is.each_asks)
@@ -139,7 +140,7 @@ lock_gives_back max n lock held is =
 
 pub lock_cancels : (max slot : ℕ) (lock : SemaphoreState) → IsLock max lock → IsLock max (record lock { line = cancel (is_slot slot) lock.line })
 lock_cancels max slot lock is =
-    is_lock max _
+    is_lock max _ is.some
     (unowed (entry_named (is_slot slot) lock.line.granted))
     (same lock.line.free (cancel (is_slot slot) lock.line).free (total lock.line.granted) (total (cancel (is_slot slot) lock.line).granted) lock.held (free-total-cancel (is_slot slot) lock.line) is.shares)
     (all-requests-cancel (λ (e : Entry ℕ). 0 < e.size) (is_slot slot) lock.line is.each_asks)
@@ -157,7 +158,7 @@ lock_cancels max slot lock is =
 pub lock_polls_granted : (max slot n : ℕ) (lock : SemaphoreState) → entry_named (is_slot slot) lock.line.granted ≡ Some (record { name = slot; size = n }) → IsLock max lock
     → IsLock max (record lock { line = poll_granted (is_slot slot) lock.line; held = lock.held + n })
 lock_polls_granted max slot n lock there is =
-    is_lock max _ is.none_owed
+    is_lock max _ is.some is.none_owed
     (same n lock.line.free (total (without (is_slot slot) lock.line.granted)) (total lock.line.granted) lock.held (total-without (is_slot slot) lock.line.granted _ there) is.shares)
     (all-requests-poll_granted (λ (e : Entry ℕ). 0 < e.size) (is_slot slot) lock.line is.each_asks)
   where
@@ -166,7 +167,7 @@ lock_polls_granted max slot n lock there is =
 
 pub lock_polls_waiting : (max slot waker : ℕ) (lock : SemaphoreState) → IsLock max lock → IsLock max (record lock { line = poll_waiting (is_slot slot) waker lock.line })
 lock_polls_waiting max slot waker lock is =
-    is_lock max _ is.none_owed is.shares (all-requests-poll_waiting (λ (e : Entry ℕ). 0 < e.size) (is_slot slot) waker lock.line is.each_asks)
+    is_lock max _ is.some is.none_owed is.shares (all-requests-poll_waiting (λ (e : Entry ℕ). 0 < e.size) (is_slot slot) waker lock.line is.each_asks)
 
 is_true : (b : Bool) → IsTrue b → b ≡ true
 is_true true h = refl
@@ -202,11 +203,11 @@ lock_ends max (Joined slot) old new new_is is = rw new_is (lock_cancels max slot
 lock_ends max Finished old new new_is is = rw new_is is
 
 -- a new lock
-pub lock_starts : (max number : ℕ) → IsLock max (record { number = number; line = record { free = pos max; waiting = []; granted = []; wakes = [] }; held = 0 })
-lock_starts max number = is_lock max _ (some max) (all max) tt
+pub lock_starts : (max number : ℕ) → 0 < max → IsLock max (record { number = number; line = record { free = pos max; waiting = []; granted = []; wakes = [] }; held = 0 })
+lock_starts max number some = is_lock max _ some (unowed max) (all max) tt
   where
-    some : (n : ℕ) → pos 0 ≤ℤ pos n
-    some n = omega (arith, ints)
+    unowed : (n : ℕ) → pos 0 ≤ℤ pos n
+    unowed n = omega (arith, ints)
 
     all : (n : ℕ) → pos n +ℤ pos 0 ≡ pos n
     all n = omega (arith, ints)

@@ -6,6 +6,8 @@ use Rattle.band_balance.specs.Line.{Entry, requests, total, entry_named}
 use Rattle.band_sem.specs.Semaphore.{SemaphoreState, is_slot}
 
 pub record IsLock (max : ℕ) (lock : SemaphoreState) : Type 0 where
+  -- there is a share at least
+  pub some : 0 < max
   -- nothing is owed
   pub none_owed : pos 0 ≤ℤ lock.line.free
   -- what is free, granted and held is all there is

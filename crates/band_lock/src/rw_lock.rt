@@ -21,7 +21,6 @@ pub struct RwLockState {
 }
 
 impl Model for RwLockState {
-    ghost use Rattle.std.specs.Prelude.{◌<◌};
     ghost use Rattle.band_lock.specs.Lock.{IsLock};
     ghost use Rattle.band_lock.specs.ReaderWriter.{ReaderWriter};
 
@@ -29,7 +28,7 @@ impl Model for RwLockState {
 
     ghost view = { λ l. record { max = l.max_readers; shares = l.semaphore } };
 
-    ghost invariant = { λ l. (0 < l.max_readers) × IsLock l.max_readers l.semaphore };
+    ghost invariant = { λ l. IsLock l.max_readers l.semaphore };
 }
 
 /// A request to read. It must be ended by `cancel` or `lose`. Ports the future of `read`.
