@@ -94,7 +94,7 @@ writes_whole max all e sized alone writes =
     let whole : e.size ≡ max = sized.size ∙ ap (size_of (ReaderWriter max)) writes in
     alone (omega arith)
 
-exclusive_as : (kind : Kind) (line : Line Tag) (held : List (Entry Tag)) → OrderlyAs kind line held → ExclusiveAs kind (line.granted ++ held)
+pub exclusive_as : (kind : Kind) (line : Line Tag) (held : List (Entry Tag)) → OrderlyAs kind line held → ExclusiveAs kind (line.granted ++ held)
 exclusive_as Semaphore line held is = tt
 exclusive_as Mutex line held is = one_at_most Mutex 1 line held is refl
 exclusive_as (ReaderWriter max) line held is =

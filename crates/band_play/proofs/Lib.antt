@@ -43,6 +43,7 @@ pub mod Sound
 pub mod Standing
 pub mod Starting
 pub mod Statuses
+pub mod StoodLawful
 pub mod TableLemmas
 pub mod Telling
 pub mod Turns

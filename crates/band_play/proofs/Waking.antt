@@ -43,6 +43,7 @@ same_line line wakes held lawful = record {
 
 same_lock : (max : ℕ) (wakes : List ℕ) (sem : ObjectState) → IsLock max (shares_of (with_wakes wakes sem)) → IsLock max (shares_of sem)
 same_lock max wakes sem is = record {
+  some = is.some;
   none_owed = is.none_owed;
   shares = is.shares;
   each_asks = is.each_asks;

@@ -5,6 +5,7 @@ pub mod Exclusion
 pub mod Faults
 pub mod Grammar
 pub mod Kept
+pub mod Lawful
 pub mod Left
 pub mod Lines
 pub mod Moves

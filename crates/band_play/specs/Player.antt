@@ -4,6 +4,7 @@ use Rattle.band_play.specs.declared.call.Call.{Call}
 use Rattle.band_play.specs.declared.call.Call.TheVariants.{Sem, Mutex, Rw, Ask, Lock, Read, Write, Poll, Drop, Try, TryLock, TryRead, TryWrite, Release, Reduce, Drain, Forget, Split, Merge, Downgrade, Status}
 use Rattle.band_play.specs.declared.player.Player.{Player}
 use Rattle.band_play.specs.declared.reply.Reply.{Reply}
+use Rattle.band_play.specs.Lawful.{EachLawful}
 use Rattle.band_play.specs.State.{State}
 use Rattle.band_play.specs.Step.{Outcome}
 use Rattle.band_play.specs.Kept as kept
@@ -23,6 +24,10 @@ Follows call old reply new = kept.Follows call old.table reply new.table
 -- it has come to what it had come to, whichever of its wakers are taken
 abbrev pub Stays : Player → Player → Type 0
 Stays old new = kept.Remains old.table new.table
+
+-- each object of every state that the player may have come to is lawful
+pub record KeepsLaws (player : Player) : Type 0 where
+  pub each : (state : State) → StandsFor player state → EachLawful state
 
 -- the calls that take no memory
 abbrev pub TakesNoMemory : Call → Type 0

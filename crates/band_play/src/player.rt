@@ -34,7 +34,7 @@ fn most_readers(n: Option<u64>) -> u64
 impl Player {
     ghost use Rattle.std.specs.Prelude.{◌≡◌, [], ◌∷◌, IfOk, OnErr, IsOk, MatchOption};
     ghost use Rattle.band_play.specs.Step.{step};
-    ghost use Rattle.band_play.specs.Player.{StandsFor, Follows, Stays, TakesNoMemory, ForReaders, wakers_left};
+    ghost use Rattle.band_play.specs.Player.{StandsFor, Follows, Stays, KeepsLaws, TakesNoMemory, ForReaders, wakers_left};
 
     /// No name.
     pub fn new(alloc: Global) -> Player
@@ -48,6 +48,7 @@ impl Player {
     }
 
     /// Runs one line of a script.
+    #[tactic(auto, using(crate::proofs::StoodLawful::keeps_laws))]
     pub fn step<L: Ledger>(
         &mut self,
         call: &Call,
@@ -60,6 +61,7 @@ impl Player {
         ensures follows { IfOk result (λ reply. Follows (step call.now) self.old reply self.new) }
         ensures err { OnErr result (Stays self.old self.new × (wakers_left self.new ≡ [])) }
         ensures succeeds { TakesNoMemory call.now → IsOk result }
+        ensures lawful { KeepsLaws self.new }
     {
         match call {
             Call::Sem { made, n } => self.table.make(self.alloc, made, New::Semaphore(*n)),
