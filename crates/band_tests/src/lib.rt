@@ -4,6 +4,16 @@
 #[cfg(test)]
 mod devices;
 #[cfg(test)]
-mod telling;
+mod examples;
 #[cfg(test)]
-mod tests;
+mod faults;
+#[cfg(test)]
+mod playing;
+#[cfg(test)]
+mod rows;
+#[cfg(test)]
+mod stepping;
+#[cfg(test)]
+mod streams;
+#[cfg(test)]
+mod telling;

@@ -116,3 +116,15 @@ fn a_fault_of_err_leaves_the_status(rt: HostRuntime) -> Result<(), Fail> {
     assert_eq!(rt; run_over(rt.alloc(), "no", &mut streams)?, 7);
     Ok(())
 }
+
+#[test]
+fn tells_of_no_memory(rt: HostRuntime) -> Result<(), Fail> {
+    let mut streams = Streams {
+        src: BytesIn::new(b"sem s 1\n"),
+        dst: Full,
+        err: BytesOut::new(rt.alloc()),
+    };
+    assert_eq!(rt; run_over(rt.alloc(), "play", &mut streams)?, 7);
+    assert_eq!(rt; streams.err.bytes(), b"no memory\n".as_slice());
+    Ok(())
+}

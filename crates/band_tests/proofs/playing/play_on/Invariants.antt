@@ -1,4 +1,4 @@
-use Rattle.band_tests.proofs.tests.play_on.Given as goal
+use Rattle.band_tests.proofs.playing.play_on.Given as goal
 
 abbrev pub ghosts-play_counted : goal.ghosts-play_counted
 ghosts-play_counted g a = record { name = a.blank.name; parts = a.blank.parts }
