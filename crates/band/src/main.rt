@@ -10,10 +10,27 @@ use std::process::ExitCode;
 use std::sync::ledger::{Blank, Ledger};
 use std::{env, io};
 
-fn main(rt: HostRuntime) -> io::Result<ExitCode> {
-    let words: Vec<String> = env::args(&rt)?.skip(1).collect(rt.alloc())?;
-    let status = run_counted::<Brand>(&rt, &words, Blank::new(1));
-    Ok(ExitCode::from(status))
+/// The status where there was no memory for the words.
+const NO_MEMORY: u8 = 7;
+
+fn main(rt: HostRuntime) -> ExitCode {
+    ExitCode::from(status(&rt))
+}
+
+/// Runs on the words after the program's name. A word that is no text is none that the program knows.
+fn status(rt: &HostRuntime) -> u8
+    ensures { IsStatus result }
+{
+    let words = match read_words(rt) {
+        Ok(words) => words,
+        Err(error) if error.kind() == io::ErrorKind::OutOfMemory => return NO_MEMORY,
+        Err(_) => Vec::new(rt.alloc()),
+    };
+    run_counted::<Brand>(rt, &words, Blank::new(1))
+}
+
+fn read_words(rt: &HostRuntime) -> io::Result<Vec<String>> {
+    Ok(env::args(rt)?.skip(1).collect(rt.alloc())?)
 }
 
 /// Runs over the standard streams, with a counter of the ledger that `blank` opens.

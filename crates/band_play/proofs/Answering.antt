@@ -10,11 +10,11 @@ use Rattle.band_play.specs.declared.fault.PlayFault.{PlayFault}
 use Rattle.band_play.specs.declared.fault.PlayFault.TheVariants as faults
 use Rattle.band_play.specs.declared.playing.Playing.{Playing}
 use Rattle.band_play.specs.Script.{Verdict, Good, Malformed, TooLong, verdict, verdict_from, verdict_at_end, lines_of, rest_of, calls_of, calls_within, transcript}
-use Rattle.band_play.specs.Play.{Comes, AllRead, Takes, AddsFront, PlaysGiven, StopsEarly, WritesFront, answer_of, Completes}
+use Rattle.band_play.specs.Play.{Comes, AllRead, Takes, TakesJust, AddsFront, PlaysGiven, StopsEarly, WritesFront, KeepsUp, answer_of, Completes}
 use Rattle.band_play.specs.Playing.{HasPlayed, PlaysPiece, Stops, StopsInPiece}
 use Rattle.band_play.specs.Answers.{Counts, Answers, answer_at_end}
 use Rattle.std.proofs.lemmas.Option.{none-some, same_Some}
-use Rattle.band_play.proofs.Devices.{gives_more, takes_after, rises}
+use Rattle.band_play.proofs.Devices.{adds_more, adds_nothing, gives_more, gives_nothing, takes_after, rises}
 use Rattle.band_play.proofs.HeldLemmas.{take_through}
 use Rattle.band_play.proofs.LineRuns.{AreCalls, verdict_of_calls}
 
@@ -145,8 +145,8 @@ answers_end limit left piece playing first mid last before after counts q gives 
     still_none (Some bytes) (Some more) gives none = ap (λ p. p ++ more) (sym empty) ∙ sym gives ∙ none
 
 -- more was given than the limit
-pub answers_over : (limit left : ℕ) (piece cut : List ℕ) (old new : Playing) (first mid last before between after : Option (List ℕ)) → SoFar limit left old first mid before between → GivesFront piece mid last → left < length piece → cut ≡ take left piece → PlaysPiece cut old new between after → Comes TooLong limit first before after
-answers_over limit left piece cut old new first mid last before between after q gives past is plays =
+comes_over : (limit left : ℕ) (piece cut : List ℕ) (old new : Playing) (first mid last before between after : Option (List ℕ)) → SoFar limit left old first mid before between → GivesFront piece mid last → left < length piece → cut ≡ take left piece → PlaysPiece cut old new between after → Comes TooLong limit first before after
+comes_over limit left piece cut old new first mid last before between after q gives past is plays =
     let given = q.given ++ piece in
     let played = plays q.given before q.played in
     let size : limit ≤ length given = omega (arith, q.size, length-append q.given piece) in
@@ -164,6 +164,20 @@ answers_over limit left piece cut old new first mid last before between after q 
           ∙ verdict_of_calls (lines_of (take limit given)) (rest_of (take limit given)) true each,
       subst W (sym same) adds,
     ))
+
+takes_just_of : (n : ℕ) (given : List ℕ) (first last : Option (List ℕ)) → GivesFront given first last → length given ≡ n → TakesJust n first last
+takes_just_of n given None last gives size = tt
+takes_just_of n given (Some bytes) None gives size = absurd gives
+takes_just_of n given (Some bytes) (Some more) gives size = (given, gives, size)
+
+pub answers_over : (limit left : ℕ) (piece cut : List ℕ) (old new : Playing) (first mid last before between after : Option (List ℕ)) → SoFar limit left old first mid before between → GivesFront piece mid last → left < length piece → length piece ≤ left + 1 → cut ≡ take left piece → PlaysPiece cut old new between after → Comes TooLong limit first before after × TakesJust (limit + 1) first last
+answers_over limit left piece cut old new first mid last before between after q gives past room is plays = (
+  comes_over limit left piece cut old new first mid last before between after q gives past is plays,
+  takes_just_of (limit + 1) (q.given ++ piece) first last (gives_more q.given piece first mid last q.front gives)
+      (let all : length (q.given ++ piece) ≡ length q.given + length piece = length-append q.given piece in
+      let size : length q.given + left ≡ limit = q.size in
+      omega arith),
+)
 
 -- a piece was not played to its end
 answers_stop : (fault : PlayFault) (limit : ℕ) (given : List ℕ) (first last before after : Option (List ℕ)) (counts : Counts) → GivesFront given first last → Stops fault (take limit given) before after counts.writes counts.writes_now → Answers (Err fault) limit first last before after counts
@@ -217,6 +231,31 @@ front_over limit left piece cut old new first mid last before between after q gi
     writes_front_of limit (q.given ++ piece) first last before after (gives_more q.given piece first mid last q.front gives)
     (subst P (ap (λ p. q.given ++ p) is ∙ given_within limit left q.given piece q.size) (whole_front _ before after (all_written (q.given ++ cut) new before after (plays q.given before q.played))))
 
+keeps_up_of : (limit : ℕ) (given piece text : List ℕ) (first last before after : Option (List ℕ)) → GivesFront (given ++ piece) first last → length piece ≤ 4096 → Adds (transcript (calls_within limit given) ++ text) before after → KeepsUp limit first last before after
+keeps_up_of limit given piece text None last before after gives size adds = tt
+keeps_up_of limit given piece text (Some bytes) None before after gives size adds = absurd gives
+keeps_up_of limit given piece text (Some bytes) (Some more) before after gives size adds = (given, piece, gives, size, (text, adds))
+
+-- what was played before a piece was answered, whatever was written since
+pub keeps_up : (limit left : ℕ) (piece text : List ℕ) (playing : Playing) (first mid last before between after : Option (List ℕ)) → SoFar limit left playing first mid before between → GivesFront piece mid last → length piece ≤ 4096 → Adds text between after → KeepsUp limit first last before after
+keeps_up limit left piece text playing first mid last before between after q gives size adds =
+    let P : List ℕ → Type 0 = λ g. Adds (transcript (calls_of (lines_of g))) before between in
+    keeps_up_of limit q.given piece text first last before after (gives_more q.given piece first mid last q.front gives) size
+    (adds_more (transcript (calls_within limit q.given)) text before between after
+    (subst P (sym (within_limit limit left q.given q.size)) (all_written q.given playing before between q.played)) adds)
+
+pub keeps_up_still : (limit left : ℕ) (playing : Playing) (first mid last before after : Option (List ℕ)) → SoFar limit left playing first mid before after → last ≡ mid → KeepsUp limit first last before after
+keeps_up_still limit left playing first mid last before after q same =
+    let P : Option (List ℕ) → Type 0 = λ l. KeepsUp limit first l before after in
+    subst P (sym same) (keeps_up limit left [] [] playing first mid mid before after after q (gives_nothing mid) (omega arith) (adds_nothing after))
+
+-- where nothing was taken or written
+pub keeps_up-none : (limit : ℕ) (left before : Option (List ℕ)) → KeepsUp limit left left before before
+keeps_up-none limit left before =
+    let nothing : transcript (calls_within limit []) ≡ [] = ap (λ bytes. transcript (calls_of (lines_of bytes))) (take_all limit [] (omega arith)) in
+    let P : List ℕ → Type 0 = λ text. Adds (text ++ []) before before in
+    keeps_up_of limit [] [] [] left left before before (gives_nothing left) (omega arith) (subst P (sym nothing) (adds_nothing before))
+
 -- how much was taken
 pub takes_so_far : (limit left n : ℕ) (playing : Playing) (first mid last before after : Option (List ℕ)) → SoFar limit left playing first mid before after → Takes n mid last → n ≤ left + 1 → Takes (limit + 1) first last
 takes_so_far limit left n playing first mid last before after q takes size =
@@ -249,7 +288,7 @@ no_memory_of limit (Some bytes) = inr refl
 pub says_outcome : (answer : Result ℕ PlayFault) (limit : ℕ) (first last before after : Option (List ℕ)) (counts : Counts) → Answers answer limit first last before after counts → (Rose counts.reads counts.reads_now → ⊥) → (Rose counts.writes counts.writes_now → ⊥) → Completes limit first answer
 says_outcome (Ok lines) limit first last before after counts says reads writes = outcome_of (Good lines) (Ok lines) limit first before after refl says.0
 says_outcome (Err (faults.Malformed line)) limit first last before after counts says reads writes = outcome_of (Malformed line) (Err (faults.Malformed line)) limit first before after refl says
-says_outcome (Err faults.TooLong) limit first last before after counts says reads writes = outcome_of TooLong (Err faults.TooLong) limit first before after refl says
+says_outcome (Err faults.TooLong) limit first last before after counts says reads writes = outcome_of TooLong (Err faults.TooLong) limit first before after refl says.0
 says_outcome (Err faults.Read) limit first last before after counts says reads writes = absurd (reads says.1)
 says_outcome (Err faults.Write) limit first last before after counts says reads writes = absurd (writes says)
 says_outcome (Err faults.NoMemory) limit first last before after counts says reads writes = no_memory_of limit first

@@ -20,6 +20,7 @@ pub mod LineCuts
 pub mod LineRows
 pub mod LineRuns
 pub mod Lists
+pub mod LongestLine
 pub mod Making
 pub mod Merging
 pub mod NameLemmas

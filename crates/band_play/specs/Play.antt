@@ -32,6 +32,12 @@ Takes n None left = Unit {0}
 Takes n (Some bytes) None = ⊥
 Takes n (Some bytes) (Some left) = (given : List ℕ) × (bytes ≡ given ++ left) × (length given ≤ n)
 
+-- where the source told its bytes: just this many were taken from their front
+abbrev pub TakesJust : ℕ → Option (List ℕ) → Option (List ℕ) → Type 0
+TakesJust n None left = Unit {0}
+TakesJust n (Some bytes) None = ⊥
+TakesJust n (Some bytes) (Some left) = (given : List ℕ) × (bytes ≡ given ++ left) × (length given ≡ n)
+
 -- these bytes were given within the limit, each of their ended lines stands for a call, and exactly the transcript of those was written
 pub record PlaysGiven (limit : ℕ) (given : List ℕ) (before after : Option (List ℕ)) : Type 0 where
   pub within : length given ≤ limit
@@ -51,6 +57,19 @@ WritesFront limit None left before after = Unit {0}
 WritesFront limit (Some bytes) None before after = ⊥
 WritesFront limit (Some bytes) (Some left) before after =
     (given : List ℕ) × (bytes ≡ given ++ left) × AddsFront (transcript (calls_within limit given)) before after
+
+-- what was written begins with this text
+abbrev pub BeginsWith : List ℕ → Option (List ℕ) → Option (List ℕ) → Type 0
+BeginsWith text before after = (rest : List ℕ) × Adds (text ++ rest) before after
+
+-- where the source told its bytes: all that it gave before its last piece, of at most 4096 bytes, was answered, whatever came
+-- of that piece
+abbrev pub KeepsUp : ℕ → Option (List ℕ) → Option (List ℕ) → Option (List ℕ) → Option (List ℕ) → Type 0
+KeepsUp limit None left before after = Unit {0}
+KeepsUp limit (Some bytes) None before after = ⊥
+KeepsUp limit (Some bytes) (Some left) before after =
+    (played : List ℕ) × (piece : List ℕ) × (bytes ≡ (played ++ piece) ++ left) × (length piece ≤ 4096)
+    × BeginsWith (transcript (calls_within limit played)) before after
 
 -- the answer that tells an outcome
 abbrev pub answer_of : Verdict → Result ℕ PlayFault

@@ -54,3 +54,7 @@ Stops faults.NoMemory bytes start now old new = AddsFront (transcript (calls_of 
 abbrev pub StopsInPiece : PlayFault → List ℕ → Playing → Option (List ℕ) → Option (List ℕ) → ℕ → ℕ → Type 0
 StopsInPiece fault piece playing before after old new =
     (given : List ℕ) (start : Option (List ℕ)) → HasPlayed given playing start before → Stops fault (given ++ piece) start after old new
+
+-- some text was added at the end of what was written
+abbrev pub AddsSome : Option (List ℕ) → Option (List ℕ) → Type 0
+AddsSome before after = (text : List ℕ) × Adds text before after

@@ -295,7 +295,8 @@ pub fn one_call()
     ensures { (line : List ℕ) (a b : TheCall) → IsLine line a → IsLine line b → a ≡ b }
 {}
 
-/// A line that stands for a call has at most 111 bytes.
+/// A line that stands for a call has at most 111 bytes, and one has as many.
 pub fn longest_line()
-    ensures { (line : List ℕ) (call : TheCall) → IsLine line call → length line ≤ 111 }
+    ensures most { (line : List ℕ) (call : TheCall) → IsLine line call → length line ≤ 111 }
+    ensures reached { (line : List ℕ) × ((call : TheCall) × IsLine line call × (length line ≡ 111)) }
 {}

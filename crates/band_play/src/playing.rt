@@ -3,7 +3,7 @@ ghost use Rattle.std.specs.Prelude.{◌≡◌, ◌+◌, ◌<◌, ◌≤◌, [], 
 ghost use Rattle.band_base.specs.Device.{Rose, Adds};
 ghost use Rattle.band_play.specs.Player.{wakers_left};
 ghost use Rattle.band_play.specs.Play.{AddsFront};
-ghost use Rattle.band_play.specs.Playing.{HasRun, RunsPiece, PlaysPiece, StopsInPiece};
+ghost use Rattle.band_play.specs.Playing.{HasRun, RunsPiece, PlaysPiece, StopsInPiece, AddsSome};
 ghost use Rattle.band_play.specs.Answers.{answer_at_end};
 
 use crate::held::HeldLine;
@@ -53,6 +53,8 @@ impl Playing {
         requires countable { self.old.lines + length piece.now ≤ u64.MAX }
         ensures plays { OnOk result (PlaysPiece piece.now self.old self.new (D.written dst.old) (D.written dst.new)) }
         ensures stops { IfErr result (λ fault. StopsInPiece fault piece.now self.old (D.written dst.old) (D.written dst.new) (D.faults dst.old) (D.faults dst.new)) }
+        // Whatever the answer is.
+        ensures adds { AddsSome (D.written dst.old) (D.written dst.new) }
         ensures quiet { OnOk result (wakers_left self.new.player ≡ []) }
         ensures lines { OnOk result (self.new.lines ≤ self.old.lines + length piece.now) }
         ensures never_fall { D.faults dst.old ≤ D.faults dst.new }

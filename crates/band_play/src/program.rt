@@ -2,7 +2,7 @@
 ghost use Rattle.std.specs.Prelude.{◌≡◌, ◌≢◌, ◌↔◌, ◌⊎◌, ℕ, ◌+◌, ◌≤◌, [], ◌∷◌, ◌++◌, codes, map, string_bytes, IsTrue, Err};
 ghost use Rattle.band_base.specs.Device.{Rose};
 ghost use Rattle.band_play.specs.Script.{Good, Malformed, TooLong};
-ghost use Rattle.band_play.specs.Play.{Comes, AllRead, Takes, StopsEarly, AddsFront, WritesFront, CompletesAs, Told, ToldText, ToldWith, IsStatus, status_of, program_limit};
+ghost use Rattle.band_play.specs.Play.{Comes, AllRead, Takes, TakesJust, StopsEarly, AddsFront, WritesFront, KeepsUp, CompletesAs, Told, ToldText, ToldWith, IsStatus, status_of, program_limit};
 ghost use Rattle.band_play.specs.Text.{fault_text};
 
 use crate::outlet::write_all;
@@ -40,11 +40,14 @@ pub fn run<S: Source, D: Sink, E: Sink, L: Ledger>(
     ensures malformed { result ≡ 3 → (line : ℕ) × Comes (Malformed line) program_limit (S.left src.old) (D.written dst.old) (D.written dst.new)
         × Told (fault_text (PlayFault.Malformed line)) (E.written err.old) (E.written err.new) (E.faults err.old) (E.faults err.new) }
     ensures too_long { result ≡ 4 → Comes TooLong program_limit (S.left src.old) (D.written dst.old) (D.written dst.new) }
+    ensures past { result ≡ 4 → TakesJust (program_limit + 1) (S.left src.old) (S.left src.new) }
     ensures read { result ≡ 5 → Rose (S.faults src.old) (S.faults src.new) }
     ensures stops { result ≡ 5 → StopsEarly program_limit (S.left src.old) (S.left src.new) (D.written dst.old) (D.written dst.new) }
     ensures write { result ≡ 6 → Rose (D.faults dst.old) (D.faults dst.new) }
     // Whatever the status is.
     ensures front { WritesFront program_limit (S.left src.old) (S.left src.new) (D.written dst.old) (D.written dst.new) }
+    // Each piece is answered before the next is read.
+    ensures keeps_up { KeepsUp program_limit (S.left src.old) (S.left src.new) (D.written dst.old) (D.written dst.new) }
     // Where neither end failed, the status tells the outcome, or there was no memory.
     ensures completes { map string_bytes words.now ≡ codes "play" ∷ [] → (Rose (S.faults src.old) (S.faults src.new) → ⊥) → (Rose (D.faults dst.old) (D.faults dst.new) → ⊥) → CompletesAs program_limit (S.left src.old) result }
     // What is told on `err`.

@@ -2,7 +2,7 @@
 ghost use Rattle.std.specs.Prelude.{◌≡◌, ℕ, ◌+◌, ◌<◌, ◌≤◌, [], take, length, OnOk, OnErr, IfOk, IfSome, Err};
 ghost use Rattle.band_base.specs.Device.{Rose, GivesFront};
 ghost use Rattle.band_play.specs.Script.{Good, Malformed, TooLong};
-ghost use Rattle.band_play.specs.Play.{Comes, AllRead, Takes, StopsEarly, WritesFront, Completes};
+ghost use Rattle.band_play.specs.Play.{Comes, AllRead, Takes, TakesJust, StopsEarly, WritesFront, KeepsUp, Completes};
 ghost use Rattle.band_play.specs.Answers.{Answers};
 
 use crate::PlayFault;
@@ -29,11 +29,14 @@ pub fn play<S: Source, D: Sink, L: Ledger>(
     ensures takes { Takes (limit + 1) (S.left src.old) (S.left src.new) }
     ensures malformed { (line : ℕ) → result ≡ Err (PlayFault.Malformed line) → Comes (Malformed line) limit (S.left src.old) (D.written dst.old) (D.written dst.new) }
     ensures too_long { result ≡ Err PlayFault.TooLong → Comes TooLong limit (S.left src.old) (D.written dst.old) (D.written dst.new) }
+    ensures past { result ≡ Err PlayFault.TooLong → TakesJust (limit + 1) (S.left src.old) (S.left src.new) }
     ensures read { result ≡ Err PlayFault.Read → Rose (S.faults src.old) (S.faults src.new) }
     ensures stops { result ≡ Err PlayFault.Read → StopsEarly limit (S.left src.old) (S.left src.new) (D.written dst.old) (D.written dst.new) }
     ensures write { result ≡ Err PlayFault.Write → Rose (D.faults dst.old) (D.faults dst.new) }
     // Whatever the answer is.
     ensures front { WritesFront limit (S.left src.old) (S.left src.new) (D.written dst.old) (D.written dst.new) }
+    // Each piece is answered before the next is read.
+    ensures keeps_up { KeepsUp limit (S.left src.old) (S.left src.new) (D.written dst.old) (D.written dst.new) }
     // Where neither end failed, the answer tells the outcome, or there was no memory.
     ensures completes { (Rose (S.faults src.old) (S.faults src.new) → ⊥) → (Rose (D.faults dst.old) (D.faults dst.new) → ⊥) → Completes limit (S.left src.old) result }
     ensures reads_never_fall { S.faults src.old ≤ S.faults src.new }
@@ -54,6 +57,7 @@ fn play_pieces<S: Source, D: Sink, L: Ledger>(
     ensures answers { Answers result limit (S.left src.old) (S.left src.new) (D.written dst.old) (D.written dst.new)
         (record { reads = S.faults src.old; reads_now = S.faults src.new; writes = D.faults dst.old; writes_now = D.faults dst.new }) }
     ensures front { WritesFront limit (S.left src.old) (S.left src.new) (D.written dst.old) (D.written dst.new) }
+    ensures keeps_up { KeepsUp limit (S.left src.old) (S.left src.new) (D.written dst.old) (D.written dst.new) }
     ensures takes { Takes (limit + 1) (S.left src.old) (S.left src.new) }
     ensures reads_never_fall { S.faults src.old ≤ S.faults src.new }
     ensures writes_never_fall { D.faults dst.old ≤ D.faults dst.new }

@@ -1,4 +1,5 @@
 use Rattle.band_play.specs.Play.{program_limit}
+use Rattle.band_play.proofs.Answering.{keeps_up-none}
 use Rattle.band_play.proofs.Statuses.{front_of_none, told_usage, malformed_told}
 use Rattle.band_play.proofs.program.run.Goals as goal
 
@@ -11,3 +12,6 @@ returns-then-not-asks_to_play-clause-told g c = told_usage c.tell.result c.as_by
 pub returns-in-Err-clause-malformed : goal.returns-in-Err-clause-malformed
 returns-in-Err-clause-malformed g c =
     malformed_told c.play.result c.in-Err.fault c.tell_fault.result _ _ _ _ _ c.in-Err.is c.play.ensures.malformed c.tell_fault.ensures.status c.tell_fault.ensures.told
+
+pub returns-then-not-asks_to_play-clause-keeps_up : goal.returns-then-not-asks_to_play-clause-keeps_up
+returns-then-not-asks_to_play-clause-keeps_up g c = keeps_up-none program_limit (g.S.Source.left c.args.src.now) (g.D.Sink.written c.args.dst.now)

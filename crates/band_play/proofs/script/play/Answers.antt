@@ -12,7 +12,10 @@ pub returns-clause-malformed : goal.returns-clause-malformed
 returns-clause-malformed g c = λ line is. says_fault c.play_pieces.result (faults.Malformed line) _ _ _ _ _ _ c.play_pieces.ensures.answers is
 
 pub returns-clause-too_long : goal.returns-clause-too_long
-returns-clause-too_long g c = λ is. says_fault c.play_pieces.result faults.TooLong _ _ _ _ _ _ c.play_pieces.ensures.answers is
+returns-clause-too_long g c = λ is. (says_fault c.play_pieces.result faults.TooLong _ _ _ _ _ _ c.play_pieces.ensures.answers is).0
+
+pub returns-clause-past : goal.returns-clause-past
+returns-clause-past g c = λ is. (says_fault c.play_pieces.result faults.TooLong _ _ _ _ _ _ c.play_pieces.ensures.answers is).1
 
 pub returns-clause-read : goal.returns-clause-read
 returns-clause-read g c = λ is. (says_fault c.play_pieces.result faults.Read _ _ _ _ _ _ c.play_pieces.ensures.answers is).1

@@ -1,8 +1,8 @@
-use Rattle.std.proofs.Common.{◌≤◌, length, ap, length-take, arith}
+use Rattle.std.proofs.Common.{◌≤◌, [], length, ap, length-take, arith}
 use Rattle.std.proofs.lemmas.Result.{err_from_is_err_and}
 use Rattle.band_play.specs.Answers.{Counts}
-use Rattle.band_play.proofs.Answering.{front_so_far, front_at_end, front_fault, front_over, answers_read, answers_end, answers_over, answers_fault, so_far_more, takes_so_far, none_in}
-use Rattle.band_play.proofs.Devices.{takes_piece}
+use Rattle.band_play.proofs.Answering.{front_so_far, front_at_end, front_fault, front_over, answers_read, answers_end, answers_over, answers_fault, so_far_more, takes_so_far, keeps_up, keeps_up_still, none_in}
+use Rattle.band_play.proofs.Devices.{adds_nothing, takes_piece}
 use Rattle.band_play.proofs.script.play_pieces.Goals as goal
 
 pub returns-in_err-given-clause-answers : goal.returns-in_err-given-clause-answers
@@ -27,7 +27,7 @@ returns-in_err-feed-clause-takes g c =
 
 pub returns-then-given-left-clause-answers : goal.returns-then-given-left-clause-answers
 returns-then-given-left-clause-answers g c =
-    answers_over _ _ c.in_ok-given.given.now c.within.result.now c.pieces.playing c.feed.new.self _ _ _ _ _ _ c.pieces.invariant.so_far c.in_ok-given.ensures.front c.if-given-left.true c.within.ensures c.in_ok-feed.ensures.plays
+    answers_over _ _ c.in_ok-given.given.now c.within.result.now c.pieces.playing c.feed.new.self _ _ _ _ _ _ c.pieces.invariant.so_far c.in_ok-given.ensures.front c.if-given-left.true c.in_ok-given.ensures.count c.within.ensures c.in_ok-feed.ensures.plays
 
 pub returns-then-given-left-clause-takes : goal.returns-then-given-left-clause-takes
 returns-then-given-left-clause-takes g c =
@@ -59,3 +59,18 @@ returns-in_err-feed-clause-front g c =
 pub returns-then-given-left-clause-front : goal.returns-then-given-left-clause-front
 returns-then-given-left-clause-front g c =
     front_over _ _ c.in_ok-given.given.now c.within.result.now c.pieces.playing c.feed.new.self _ _ _ _ _ _ c.pieces.invariant.so_far c.in_ok-given.ensures.front c.within.ensures c.in_ok-feed.ensures.plays
+
+pub returns-in_err-given-clause-keeps_up : goal.returns-in_err-given-clause-keeps_up
+returns-in_err-given-clause-keeps_up g c = keeps_up_still _ _ c.pieces.playing _ _ _ _ _ c.pieces.invariant.so_far c.in_err-given.ensures.err
+
+pub returns-then-is_empty-clause-keeps_up : goal.returns-then-is_empty-clause-keeps_up
+returns-then-is_empty-clause-keeps_up g c =
+    keeps_up _ _ c.in_ok-given.given.now [] c.pieces.playing _ _ _ _ _ _ c.pieces.invariant.so_far c.in_ok-given.ensures.front c.in_ok-given.ensures.fits (adds_nothing (g.D.Sink.written c.pieces.dst))
+
+pub returns-in_err-feed-clause-keeps_up : goal.returns-in_err-feed-clause-keeps_up
+returns-in_err-feed-clause-keeps_up g c =
+    keeps_up _ _ c.in_ok-given.given.now _ c.pieces.playing _ _ _ _ _ _ c.pieces.invariant.so_far c.in_ok-given.ensures.front c.in_ok-given.ensures.fits c.feed.ensures.adds.1
+
+pub returns-then-given-left-clause-keeps_up : goal.returns-then-given-left-clause-keeps_up
+returns-then-given-left-clause-keeps_up g c =
+    keeps_up _ _ c.in_ok-given.given.now _ c.pieces.playing _ _ _ _ _ _ c.pieces.invariant.so_far c.in_ok-given.ensures.front c.in_ok-given.ensures.fits c.feed.ensures.adds.1

@@ -1,4 +1,4 @@
-use Rattle.band.proofs.main.Given as goal
+use Rattle.band.proofs.status.Given as goal
 
 abbrev pub ghosts-run_counted : goal.ghosts-run_counted
 ghosts-run_counted a = record { name = a.blank.name; parts = a.blank.parts }
