@@ -5,7 +5,7 @@ use Rattle.std.proofs.lemmas.Int.{ints}
 use Rattle.band_balance.specs.Line.{Entry, Waiting, Line, settle, settle_from, join, nobody_waits, leave_waker}
 use Rattle.band_balance.specs.Settled.{HeadWaits}
 use Rattle.band_sem.specs.Semaphore.{SemaphoreState}
-use Rattle.band_sem.specs.Store.{head_fits}
+use Rattle.band_sem.specs.Queue.{head_fits}
 
 settled_from : (free : ℤ) (waiting : List (Waiting ℕ)) (granted : List (Entry ℕ)) (wakes : List ℕ) → head_fits free waiting ≡ false → settle_from free waiting granted wakes ≡ record { free = free; waiting = waiting; granted = granted; wakes = wakes }
 settled_from free [] granted wakes h = refl
