@@ -138,13 +138,12 @@ impl Queue {
     }
 
     /// Grants from the front while the first asks for no more than is free, and tells what is left free.
-    pub(crate) fn settle(&mut self, free: i128) -> i128
+    pub(crate) fn settle(&mut self, mut free: i128) -> i128
         requires orderly { IsOrderly self.old }
         requires in_all { (free +ℤ pos (total self.old.granted.items)) ≤ℤ pos u64_max }
         ensures settled { line_at result (queue_state self.new) ≡ settle (line_at free (queue_state self.old)) }
         ensures orderly { IsOrderly self.new }
     {
-        let mut free = free;
         while self.head_fits(free) {
             free = self.grant_first(free);
         }
