@@ -1,7 +1,6 @@
 //! Who is in the line of a semaphore, and the wakers to wake.
-ghost use Rattle.std.specs.Prelude.{◌≡◌, ◌+◌, ◌<◌, ◌≤◌, false, length, IsTrue, OnOk, MatchOption, position, pos, neg_ℤ, ◌+ℤ◌, ◌-ℤ◌, ◌≤ℤ◌, [], ◌∷◌, ◌++◌};
+ghost use Rattle.std.specs.Prelude.{◌≡◌, ◌+◌, ◌<◌, length, IsTrue, OnOk, MatchOption, position, pos, ◌+ℤ◌, ◌≤ℤ◌, [], ◌∷◌, ◌++◌};
 ghost use Rattle.band_balance.specs.Line.{nobody_waits, total, settle, without_waiting, leave_waker, u64_max};
-ghost use Rattle.band_balance.specs.Settled.{HeadWaits};
 ghost use Rattle.band_sem.specs.Semaphore.{is_slot};
 ghost use Rattle.band_sem.specs.Queue.{queue_state, empty_queue, line_at, head_fits, IsOrderly, IsRoomy, Joins, TakesGrant};
 

@@ -1,5 +1,5 @@
 //! What a semaphore keeps: its counts, its line, and the wakers to wake.
-ghost use Rattle.std.specs.Prelude.{◌≡◌, ◌+◌, ◌-◌, ◌<◌, ◌≤◌, ◌↔◌, false, length, IsTrue, MatchOption, pos, ◌+ℤ◌, [], ◌∷◌};
+ghost use Rattle.std.specs.Prelude.{◌≡◌, ◌+◌, ◌-◌, ◌≤◌, ◌↔◌, false, length, IsTrue, MatchOption, pos, ◌+ℤ◌, [], ◌∷◌};
 ghost use Rattle.std.specs.Bool.{OnTrue};
 ghost use Rattle.band_balance.specs.Line.{open_line, nobody_waits, total, available, drained, overflows, owes_too_much, is_served, take_permits, settle, give_back, withdraw, cancel, entry_named, poll_waiting};
 ghost use Rattle.band_sem.specs.Semaphore.{is_slot, with_wakes};
