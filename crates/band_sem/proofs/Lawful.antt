@@ -1,17 +1,28 @@
 -- What is sound is lawful, and what is granted is what was asked for.
-use Rattle.std.proofs.Common.{◌≡◌, ℕ, map, ap, sym, ◌∙◌, Option, Some, None, Bool}
+use Rattle.std.proofs.Common.{◌≡◌, ℕ, map, ap, sym, ◌∙◌, Option, Some, None, Bool, nat_eq}
+use Rattle.std.specs.Global.{Global}
+use Rattle.std.specs.List.{IsDistinct}
+use Rattle.std.specs.declared.boxed.Box.{Box}
 use Rattle.std.specs.Prelude.{find}
 use Rattle.std.specs.Option.{option_or}
 use Rattle.std.proofs.lemmas.List.Folds.{find-append}
 use Rattle.band_balance.specs.Line.{Entry, Line, entry_of, requests, entry_named}
+use Rattle.band_sem.specs.declared.queue.Queue.{Queue}
 use Rattle.band_sem.specs.declared.store.Store.{Store}
 use Rattle.band_sem.specs.Semaphore.{IsLawful, is_slot}
-use Rattle.band_sem.specs.Store.{IsSound, line_of}
+use Rattle.band_sem.specs.Queue.{members}
+use Rattle.band_sem.specs.Store.{IsSound, IsQueueOrderly, queue_of, line_of}
 use Rattle.band_sem.proofs.Slots.{IsDistinct-rising}
+
+-- a slot is one request's
+pub distinct_slots : (queue : Option (Box Queue Global)) → IsQueueOrderly queue → IsDistinct nat_eq (map (λ e. e.name) (members (queue_of queue)))
+unfolding IsDistinct
+distinct_slots None h = tt
+distinct_slots (Some queue) h = IsDistinct-rising 0 queue.value.next_slot (members (queue_of (Some queue))) h.slots_rise
 
 pub lawful_when_sound : (store : Store) → IsSound store → IsLawful (line_of store) store.held
 lawful_when_sound store h = record {
-  one_each = IsDistinct-rising 0 store.next_slot (requests (line_of store)) h.kept.slots_rise;
+  one_each = distinct_slots store.queue h.kept.orderly;
   head_waits = h.head_waits;
   in_hand = h.kept.in_hand;
   in_all = h.kept.in_all;

@@ -1,40 +1,52 @@
--- How a line settles, and what a request that joins leaves of it.
-use Rattle.std.proofs.Common.{◌≡◌, refl, ℕ, Bool, true, false, List, [], ◌∷◌, ◌++◌, cond, arith, ap, ◌∙◌}
-use Rattle.std.specs.Prelude.{ℤ, pos, int_le, ◌<ℤ◌, ◌==◌, ◌||◌, ◌&&◌}
+-- What is left of a line as it settles, as a request joins, and as a new waker is left.
+use Rattle.std.proofs.Common.{◌≡◌, ℕ, ◌+◌, ◌≤◌, Bool, true, false, List, [], ◌∷◌, ◌++◌, cond, arith, ap, sym, subst, ◌∙◌}
+use Rattle.std.specs.Prelude.{ℤ, pos, neg_ℤ, int_le, ◌+ℤ◌, ◌-ℤ◌, ◌≤ℤ◌}
+use Rattle.std.proofs.lemmas.Bool.{cond_both}
 use Rattle.std.proofs.lemmas.Int.{ints}
-use Rattle.band_balance.specs.Line.{Entry, Waiting, Line, settle, settle_from, join, nobody_waits, leave_waker}
+use Rattle.band_balance.specs.Line.{Entry, Waiting, Line, entry_of, total, settle, settle_from, leave_waker, u64_max}
 use Rattle.band_balance.specs.Settled.{HeadWaits}
-use Rattle.band_sem.specs.Semaphore.{SemaphoreState}
-use Rattle.band_sem.specs.Store.{head_fits}
+use Rattle.band_balance.proofs.Settle.{total-append, HeadWaits-settle}
+use Rattle.band_sem.specs.Queue.{QueueState, line_at}
 
-settled_from : (free : ℤ) (waiting : List (Waiting ℕ)) (granted : List (Entry ℕ)) (wakes : List ℕ) → head_fits free waiting ≡ false → settle_from free waiting granted wakes ≡ record { free = free; waiting = waiting; granted = granted; wakes = wakes }
-settled_from free [] granted wakes h = refl
-settled_from free (first ∷ rest) granted wakes h = rw h refl
+-- what is free, granted and held stays within its ends
+pub record CountsFit (held : ℕ) (free : ℤ) (granted : ℕ) : Type 0 where
+  pub in_hand : granted + held ≤ u64_max
+  pub in_all : (free +ℤ pos (granted + held)) ≤ℤ pos u64_max
+  pub owed : neg_ℤ (pos u64_max) ≤ℤ free
 
--- where the first doesn't fit, the line is settled
-pub settled : (line : Line ℕ) → head_fits line.free line.waiting ≡ false → settle line ≡ line
-settled line h = settled_from line.free line.waiting line.granted line.wakes h
+-- one that asks for no more than is free is granted
+CountsFit-grant : (held size : ℕ) (free : ℤ) (granted granted' : ℕ) → int_le (pos size) free ≡ true → granted' ≡ granted + size → CountsFit held free granted → CountsFit held (free -ℤ pos size) granted'
+CountsFit-grant held size free granted granted' fits more h = record {
+  in_hand = grind (arith, ints, h.in_hand, h.in_all);
+  in_all = grind (arith, ints, h.in_all);
+  owed = grind (arith, ints);
+}
 
-not_le : (free size : ℤ) → int_le size free ≡ false → free <ℤ size
-not_le free size h = grind (arith, ints)
+one_more : (entries : List (Entry ℕ)) (e : Entry ℕ) → total (entries ++ e ∷ []) ≡ total entries + e.size
+one_more entries e = grind (arith, total-append)
 
-pub HeadWaits-settled : (free : ℤ) (waiting : List (Waiting ℕ)) → head_fits free waiting ≡ false → HeadWaits free waiting
-HeadWaits-settled free [] h = tt
-HeadWaits-settled free (first ∷ rest) h = not_le free (pos first.size) h
+CountsFit-settle_from : (held : ℕ) (free : ℤ) (waiting : List (Waiting ℕ)) (granted : List (Entry ℕ)) (wakes : List ℕ) → CountsFit held free (total granted) →
+    CountsFit held (settle_from free waiting granted wakes).free (total (settle_from free waiting granted wakes).granted)
+CountsFit-settle_from held free [] granted wakes h = h
+CountsFit-settle_from held free (first ∷ rest) granted wakes h =
+    cond_both (int_le (pos first.size) free) _ _ (λ (line : Line ℕ). CountsFit held line.free (total line.granted))
+    (λ e. CountsFit-settle_from held (free -ℤ pos first.size) rest (granted ++ entry_of first ∷ []) (wakes ++ first.waker ∷ [])
+    (CountsFit-grant held first.size free (total granted) (total (granted ++ entry_of first ∷ [])) e (one_more granted (entry_of first)) h))
+    (λ e. h)
 
-second_fails : (a b : Bool) → (a || (true && b)) ≡ false → b ≡ false
-second_fails a b h = grind arith
+-- a queue that stands for a settled line
+module _ (held : ℕ) (free free' : ℤ) (old new : QueueState) (settles : line_at free' new ≡ settle (line_at free old)) where
+  pub CountsFit-settles : CountsFit held free (total old.granted) → CountsFit held free' (total new.granted)
+  CountsFit-settles h = subst (λ (line : Line ℕ). CountsFit held line.free (total line.granted)) (sym settles) (CountsFit-settle_from held free old.waiting old.granted old.wakes h)
 
--- one that is not served at once waits for more than is free, if it is the first
-pub HeadWaits-join : (size : ℕ) (free : ℤ) (waiting : List (Waiting ℕ)) (w : Waiting ℕ) → w.size ≡ size → (size == 0 || (nobody_waits waiting && int_le (pos size) free)) ≡ false → HeadWaits free waiting → HeadWaits free (waiting ++ w ∷ [])
-HeadWaits-join size free [] w same h head = rw same (not_le free (pos size) (second_fails (size == 0) (int_le (pos size) free) h))
-HeadWaits-join size free (first ∷ rest) w same h head = head
+  pub HeadWaits-settles : HeadWaits free' new.waiting
+  HeadWaits-settles = subst (λ (line : Line ℕ). HeadWaits line.free line.waiting) (sym settles) (HeadWaits-settle (line_at free old))
 
-abbrev pub joined : SemaphoreState → ℕ → ℕ → ℕ → SemaphoreState
-joined s slot size waker = record s { line = join slot size waker s.line }
+abbrev joined : QueueState → ℕ → ℕ → ℕ → QueueState
+joined q slot size waker = record q { waiting = q.waiting ++ record { name = slot; size = size; waker = waker } ∷ [] }
 
--- to join depends on the state and the slot alone
-pub same_join : (a b : SemaphoreState) (m n size waker : ℕ) → a ≡ b → m ≡ n → joined a m size waker ≡ joined b n size waker
+-- to join depends on the queue and the slot alone
+pub same_join : (a b : QueueState) (m n size waker : ℕ) → a ≡ b → m ≡ n → joined a m size waker ≡ joined b n size waker
 same_join a b m n size waker p q = ap (λ s. joined s m size waker) p ∙ ap (λ k. joined b k size waker) q
 
 -- a new waker changes nobody's size

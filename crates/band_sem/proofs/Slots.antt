@@ -5,7 +5,7 @@ use Rattle.std.proofs.lemmas.Bool.Decides.{nat_tests}
 use Rattle.std.proofs.lemmas.List.{map-append}
 use Rattle.band_balance.specs.Line.{Entry, Waiting, entry_of, entry_named, without, without_waiting}
 use Rattle.band_sem.specs.Semaphore.{is_slot}
-use Rattle.band_sem.specs.Store.{Rises}
+use Rattle.band_sem.specs.Queue.{Rises}
 
 pub Rises-le : (low high : ℕ) (xs : List (Entry ℕ)) → Rises low high xs → low ≤ high
 Rises-le low high [] h = h

@@ -1,5 +1,6 @@
 pub mod Laws
 pub mod Permit
+pub mod Queue
 pub mod Request
 pub mod Semaphore
 pub mod Store

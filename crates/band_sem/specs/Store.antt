@@ -1,55 +1,50 @@
 -- What a store stands for, and what holds of it.
-use Rattle.std.specs.Prelude.{◌≡◌, ℕ, ◌+◌, ◌<◌, ◌≤◌, Bool, false, List, [], ◌∷◌, length, ℤ, pos, neg_ℤ, ◌+ℤ◌, ◌≤ℤ◌, int_le, IsTrue, Option, Some, None, Result, Ok, Err}
-use Rattle.std.specs.VecDeque.{deque_capacity}
+use Rattle.std.specs.Prelude.{◌≡◌, ℕ, ◌+◌, ◌≤◌, false, pos, neg_ℤ, ◌+ℤ◌, ◌≤ℤ◌, IsTrue, Option, Some, None, Result, Ok, Err, ⊤}
+use Rattle.std.specs.Global.{Global}
 use Rattle.std.specs.declared.alloc.AllocError.{AllocError}
-use Rattle.band_balance.specs.Line.{Entry, Waiting, Line, requests, total, is_served, take_permits, join, entry_named, poll_granted, poll_waiting, u64_max}
+use Rattle.std.specs.declared.boxed.Box.{Box}
+use Rattle.band_balance.specs.Line.{Line, requests, total, is_served, take_permits, join, entry_named, poll_granted, poll_waiting, u64_max}
+use Rattle.band_sem.specs.declared.queue.Queue.{Queue}
 use Rattle.band_sem.specs.declared.store.Store.{Store}
 use Rattle.band_sem.specs.declared.store.Entrance.{Entrance}
 use Rattle.band_sem.specs.declared.store.Entrance.TheVariants.{Served, Joined}
 use Rattle.band_balance.specs.Settled.{HeadWaits}
+use Rattle.band_sem.specs.Queue.{QueueState, queue_state, empty_queue, line_at, IsOrderly}
 use Rattle.band_sem.specs.Semaphore.{SemaphoreState, is_slot}
 
+-- a queue that was not made yet has nobody
+abbrev pub queue_of : Option (Box Queue Global) → QueueState
+queue_of None = empty_queue
+queue_of (Some queue) = queue_state queue.value
+
 abbrev pub line_of : Store → Line ℕ
-line_of store = record {
-  free = store.free;
-  waiting = store.waiting.items;
-  granted = store.granted.items;
-  wakes = store.wakes.wakers;
-}
+line_of store = line_at store.free (queue_of store.queue)
 
 abbrev pub state_of : Store → SemaphoreState
 state_of store = record { number = store.number; line = line_of store; held = store.held }
 
--- the slots rise, from low on and below high
-abbrev pub Rises : ℕ → ℕ → List (Entry ℕ) → Type 0
-Rises low high [] = low ≤ high
-Rises low high (entry ∷ rest) = (low ≤ entry.name) × Rises (entry.name + 1) high rest
-
--- the first that waits asks for no more than is free
-abbrev pub head_fits : ℤ → List (Waiting ℕ) → Bool
-head_fits free [] = false
-head_fits free (first ∷ rest) = int_le (pos first.size) free
+-- the queue, where there is one, is in order
+abbrev pub IsQueueOrderly : Option (Box Queue Global) → Type 0
+IsQueueOrderly None = ⊤
+IsQueueOrderly (Some queue) = IsOrderly queue.value
 
 -- what holds while the line settles, too
 pub record IsKept (store : Store) : Type 0 where
-  pub slots_rise : Rises 0 store.next_slot (requests (line_of store))
-  pub granted_sum : store.granted_sum ≡ total store.granted.items
-  pub in_hand : total store.granted.items + store.held ≤ u64_max
-  pub in_all : (store.free +ℤ pos (total store.granted.items + store.held)) ≤ℤ pos u64_max
+  pub orderly : IsQueueOrderly store.queue
+  pub in_hand : total (line_of store).granted + store.held ≤ u64_max
+  pub in_all : (store.free +ℤ pos (total (line_of store).granted + store.held)) ≤ℤ pos u64_max
   pub owed : neg_ℤ (pos u64_max) ≤ℤ store.free
-  -- each that waits can be granted and woken without memory
-  pub grants_fit : length store.granted.items + length store.waiting.items ≤ deque_capacity store.granted
-  pub wakes_fit : length store.waiting.items ≤ store.wakes.spare
 
 pub record IsSound (store : Store) : Type 0 where
   pub kept : IsKept store
-  pub head_waits : HeadWaits store.free store.waiting.items
+  pub head_waits : HeadWaits store.free (line_of store).waiting
 
--- one more can wait, and be granted and woken later
-pub record IsRoomy (store : Store) : Type 0 where
-  pub waits_fit : length store.waiting.items < deque_capacity store.waiting
-  pub grants_fit : length store.granted.items + length store.waiting.items < deque_capacity store.granted
-  pub wakes_fit : length store.waiting.items < store.wakes.spare
+-- a request that is not served joins under a slot that nobody has, which is the answer, or nothing changes
+abbrev pub JoinsLine : ℕ → ℕ → SemaphoreState → Result ℕ AllocError → SemaphoreState → Type 0
+JoinsLine size waker old (Ok slot) new =
+    (entry_named (is_slot slot) (requests old.line) ≡ None)
+    × (new ≡ record old { line = join slot size waker old.line })
+JoinsLine size waker old (Err error) new = new ≡ old
 
 -- a first poll
 abbrev pub Enters : ℕ → ℕ → SemaphoreState → Result Entrance AllocError → SemaphoreState → Type 0

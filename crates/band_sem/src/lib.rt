@@ -5,6 +5,7 @@ mod acquire;
 mod entry;
 mod errors;
 mod permit;
+mod queue;
 mod refusal;
 mod semaphore;
 mod store;

@@ -1,14 +1,13 @@
 //! What a semaphore keeps: its counts, its line, and the wakers to wake.
-ghost use Rattle.std.specs.Prelude.{◌≡◌, ◌+◌, ◌-◌, ◌<◌, ◌≤◌, ◌↔◌, false, true, length, IsTrue, OnOk, MatchOption, position, pos, ◌+ℤ◌, [], ◌∷◌};
+ghost use Rattle.std.specs.Prelude.{◌≡◌, ◌+◌, ◌-◌, ◌≤◌, ◌↔◌, false, length, IsTrue, MatchOption, pos, ◌+ℤ◌, [], ◌∷◌};
 ghost use Rattle.std.specs.Bool.{OnTrue};
-ghost use Rattle.band_balance.specs.Line.{open_line, total, available, drained, overflows, owes_too_much, is_served, take_permits, add_permits, join, settle, give_back, withdraw, cancel, entry_named, poll_waiting};
+ghost use Rattle.band_balance.specs.Line.{open_line, nobody_waits, total, available, drained, overflows, owes_too_much, is_served, take_permits, settle, give_back, withdraw, cancel, entry_named, poll_waiting};
 ghost use Rattle.band_sem.specs.Semaphore.{is_slot, with_wakes};
-ghost use Rattle.band_sem.specs.Store.{line_of, state_of, IsKept, IsSound, IsRoomy, head_fits, Enters, PollsSlot, TakesGranted};
+ghost use Rattle.band_sem.specs.Store.{line_of, state_of, IsKept, IsSound, JoinsLine, Enters, PollsSlot, TakesGranted};
 
-use crate::entry::{Grant, Waits};
-use band_base::{WakeLine, Waker};
+use crate::queue::Queue;
+use band_base::Waker;
 use std::alloc::{AllocError, Global};
-use std::collections::VecDeque;
 
 /// How a first poll goes.
 #[derive(Drop)]
@@ -19,18 +18,18 @@ pub(crate) enum Entrance {
     Joined(u64),
 }
 
-/// The state of a semaphore. A slot names a request in the line, and no slot is given twice.
+/// The state of a semaphore. Its queue is made when the first request joins, and stays from then on.
 #[derive(Drop)]
 pub(crate) struct Store {
-    number: u64,
     free: i128,
+    number: u64,
     held: u64,
-    waiting: VecDeque<Waits>,
-    granted: VecDeque<Grant>,
-    granted_sum: u64,
-    wakes: WakeLine,
-    next_slot: u64,
+    queue: Option<Box<Queue>>,
+    alloc: Global,
 }
+
+// A semaphore in which nobody ever waited takes no more than this.
+const _: () = prove!(size_of::<Store>() == 48);
 
 impl Store {
     /// Nobody is in the line, and all permits are free.
@@ -39,14 +38,11 @@ impl Store {
         ensures sound { IsSound result }
     {
         Store {
-            number,
             free: i128::from(permits),
+            number,
             held: 0,
-            waiting: VecDeque::new(alloc),
-            granted: VecDeque::new(alloc),
-            granted_sum: 0,
-            wakes: WakeLine::new(alloc),
-            next_slot: 0,
+            queue: None,
+            alloc,
         }
     }
 
@@ -70,15 +66,30 @@ impl Store {
 
     pub(crate) fn granted_sum(&self) -> u64
         requires { IsSound self.now }
-        ensures { result ≡ total self.now.granted.items }
+        ensures { result ≡ total (line_of self.now).granted }
     {
-        self.granted_sum
+        match &self.queue {
+            Some(queue) => queue.granted_sum(),
+            None => 0,
+        }
     }
 
     pub(crate) fn waiting_count(&self) -> u64
-        ensures { result ≡ length self.now.waiting.items }
+        ensures { result ≡ length (line_of self.now).waiting }
     {
-        self.waiting.len() as u64
+        match &self.queue {
+            Some(queue) => queue.waiting_count(),
+            None => 0,
+        }
+    }
+
+    fn nobody_waits(&self) -> bool
+        ensures { result ≡ nobody_waits (line_of self.now).waiting }
+    {
+        match &self.queue {
+            Some(queue) => queue.nobody_waits(),
+            None => true,
+        }
     }
 
     /// How many may be taken without waiting.
@@ -86,7 +97,7 @@ impl Store {
         requires { IsSound self.now }
         ensures { result ≡ available (line_of self.now) }
     {
-        if self.waiting.is_empty() && self.free > 0 {
+        if self.nobody_waits() && self.free > 0 {
             self.free as u64
         } else {
             0
@@ -101,13 +112,16 @@ impl Store {
             (λ waker. state_of self.old ≡ with_wakes (waker.0 ∷ (state_of self.new).line.wakes) (state_of self.new)) }
         ensures sound { IsSound self.new }
     {
-        self.wakes.take_wake()
+        match &mut self.queue {
+            Some(queue) => queue.take_wake(),
+            None => None,
+        }
     }
 
     fn serves(&self, size: u64) -> bool
         ensures { result ≡ is_served size (line_of self.now) }
     {
-        size == 0 || (self.waiting.is_empty() && i128::from(size) <= self.free)
+        size == 0 || (self.nobody_waits() && i128::from(size) <= self.free)
     }
 
     fn serve(&mut self, size: u64)
@@ -179,32 +193,22 @@ impl Store {
         true
     }
 
-    /// Makes room for one request more, and for its grant and its wake later on.
-    fn make_room(&mut self) -> Result<(), AllocError>
-        requires { IsSound self.old }
-        ensures state { state_of self.new ≡ state_of self.old }
-        ensures next_slot { self.new.next_slot ≡ self.old.next_slot }
-        ensures sound { IsSound self.new }
-        ensures room { OnOk result (IsRoomy self.new) }
-    {
-        self.waiting.reserve(1)?;
-        let room = self.waiting.capacity();
-        self.granted.reserve(room)?;
-        self.wakes.reserve(room as u64)
-    }
-
-    /// A request goes to the end of the line, in room that was made.
-    fn push(&mut self, size: u64, waker: Waker)
+    /// A request goes to the end of the line under a new slot, or there is no memory for it and nothing changes.
+    fn join(&mut self, size: u64, waker: Waker) -> Result<u64, AllocError>
         requires sound { IsSound self.old }
-        requires room { IsRoomy self.old }
-        requires slots { self.old.next_slot < u64.MAX }
         requires waits { is_served size (line_of self.old) ≡ false }
-        ensures state { state_of self.new ≡ record (state_of self.old) { line = join self.old.next_slot size waker.0 (line_of self.old) } }
+        ensures joins { JoinsLine size waker.0 (state_of self.old) result (state_of self.new) }
         ensures sound { IsSound self.new }
     {
-        self.waiting
-            .push_back_reserved(Waits::new(self.next_slot, size, waker));
-        self.next_slot += 1;
+        match &mut self.queue {
+            Some(queue) => queue.join(size, waker),
+            None => {
+                let mut queue = Queue::new(self.alloc);
+                let slot = queue.join(size, waker)?;
+                self.queue = Some(Box::new(self.alloc, queue)?);
+                Ok(slot)
+            }
+        }
     }
 
     /// Serves a first poll at once, or lets it join under a new slot.
@@ -217,40 +221,8 @@ impl Store {
             self.serve(size);
             return Ok(Entrance::Served);
         }
-        let slot = self.next_slot;
-        if slot == u64::MAX {
-            return Err(AllocError);
-        }
-        self.make_room()?;
-        self.push(size, waker);
+        let slot = self.join(size, waker)?;
         Ok(Entrance::Joined(slot))
-    }
-
-    fn head_fits(&self) -> bool
-        ensures { result ≡ head_fits self.now.free self.now.waiting.items }
-    {
-        match self.waiting.front() {
-            Some(first) => i128::from(first.size()) <= self.free,
-            None => false,
-        }
-    }
-
-    /// Grants the first that waits.
-    fn grant_first(&mut self)
-        requires kept { IsKept self.old }
-        requires fits { IsTrue (head_fits self.old.free self.old.waiting.items) }
-        ensures settle { settle (line_of self.new) ≡ settle (line_of self.old) }
-        ensures number { self.new.number ≡ self.old.number }
-        ensures held { self.new.held ≡ self.old.held }
-        ensures shorter { length self.new.waiting.items + 1 ≡ length self.old.waiting.items }
-        ensures kept { IsKept self.new }
-    {
-        if let Some(first) = self.waiting.pop_front() {
-            self.free -= i128::from(first.size());
-            self.granted_sum += first.size();
-            self.granted.push_back_reserved(first.granted());
-            self.wakes.push(first.waker());
-        }
     }
 
     /// Grants from the front of the line while the first asks for no more than is free.
@@ -259,17 +231,17 @@ impl Store {
         ensures state { state_of self.new ≡ record (state_of self.old) { line = settle (line_of self.old) } }
         ensures sound { IsSound self.new }
     {
-        while self.head_fits() {
-            self.grant_first();
+        if let Some(queue) = &mut self.queue {
+            self.free = queue.settle(self.free);
         }
     }
 
     /// All permits that there are: those free, granted and held.
     fn in_all(&self) -> i128
         requires { IsSound self.now }
-        ensures { result ≡ self.now.free +ℤ pos (total self.now.granted.items + self.now.held) }
+        ensures { result ≡ self.now.free +ℤ pos (total (line_of self.now).granted + self.now.held) }
     {
-        self.free + i128::from(self.granted_sum) + i128::from(self.held)
+        self.free + i128::from(self.granted_sum()) + i128::from(self.held)
     }
 
     fn overflows(&self, count: u64) -> bool
@@ -326,34 +298,16 @@ impl Store {
         self.add(count);
     }
 
-    fn place_granted(&self, slot: u64) -> Option<usize>
-        ensures { result ≡ position (λ e. is_slot slot e.name) self.now.granted.items }
-    {
-        self.granted.iter().position(|grant| slot == grant.slot())
-    }
-
-    fn place_waiting(&self, slot: u64) -> Option<usize>
-        ensures { result ≡ position (λ w. is_slot slot w.name) self.now.waiting.items }
-    {
-        self.waiting
-            .iter()
-            .position(|request| slot == request.slot())
-    }
-
     /// Takes the first that was granted under this slot out of the line, and tells its size.
     fn take_granted(&mut self, slot: u64) -> Option<u64>
         requires { IsSound self.old }
         ensures takes { TakesGranted slot (state_of self.old) result (state_of self.new) }
         ensures sound { IsSound self.new }
     {
-        if let Some(place) = self.place_granted(slot) {
-            if let Some(grant) = self.granted.remove(place) {
-                let size = grant.size();
-                self.granted_sum -= size;
-                return Some(size);
-            }
+        match &mut self.queue {
+            Some(queue) => queue.take_granted(slot),
+            None => None,
         }
-        None
     }
 
     /// A request that waits under this slot, if there is one, leaves its new waker.
@@ -362,9 +316,8 @@ impl Store {
         ensures state { state_of self.new ≡ record (state_of self.old) { line = poll_waiting (is_slot slot) waker.0 (line_of self.old) } }
         ensures sound { IsSound self.new }
     {
-        if let Some(place) = self.place_waiting(slot) {
-            let request = &mut self.waiting[place];
-            request.leave(waker);
+        if let Some(queue) = &mut self.queue {
+            queue.leave_waker(slot, waker);
         }
     }
 
@@ -374,8 +327,8 @@ impl Store {
         ensures state { state_of self.new ≡ record (state_of self.old) { line = withdraw None (is_slot slot) (line_of self.old) } }
         ensures kept { IsKept self.new }
     {
-        if let Some(place) = self.place_waiting(slot) {
-            let _ = self.waiting.remove(place);
+        if let Some(queue) = &mut self.queue {
+            queue.take_waiting(slot);
         }
     }
 
@@ -400,7 +353,7 @@ impl Store {
     /// The request under this slot leaves. One that was granted gives its size back.
     fn withdraw(&mut self, slot: u64)
         requires { IsSound self.old }
-        ensures state { state_of self.new ≡ record (state_of self.old) { line = withdraw (entry_named (is_slot slot) self.old.granted.items) (is_slot slot) (line_of self.old) } }
+        ensures state { state_of self.new ≡ record (state_of self.old) { line = withdraw (entry_named (is_slot slot) (line_of self.old).granted) (is_slot slot) (line_of self.old) } }
         ensures kept { IsKept self.new }
     {
         match self.take_granted(slot) {

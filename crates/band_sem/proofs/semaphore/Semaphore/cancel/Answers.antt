@@ -1,9 +1,7 @@
 use Rattle.std.proofs.Common.{ap}
-use Rattle.band_balance.specs.Line.{requests}
 use Rattle.band_sem.specs.Store.{line_of, state_of}
-use Rattle.band_sem.proofs.Lawful.{lawful_when_sound}
+use Rattle.band_sem.proofs.Lawful.{distinct_slots, lawful_when_sound}
 use Rattle.band_sem.proofs.Laws.{KeepsOrder-cancels, LeavesOthers-cancels}
-use Rattle.band_sem.proofs.Slots.{IsDistinct-rising}
 use Rattle.band_sem.proofs.semaphore.Semaphore.cancel.Goals as goal
 
 pub returns-clause-lawful : goal.returns-clause-lawful
@@ -16,5 +14,5 @@ pub returns-clause-others : goal.returns-clause-others
 returns-clause-others c =
     let store = c.self.inside.store in
     LeavesOthers-cancels c.args.slot (state_of store) c.args.self.now (state_of c.cancel.new.self) c.self.view_is c.cancel.ensures.state
-    (IsDistinct-rising 0 store.next_slot (requests (line_of store)) c.self.invariant.kept.slots_rise)
+    (distinct_slots store.queue c.self.invariant.kept.orderly)
     c.self.invariant.head_waits

@@ -3,9 +3,8 @@ use Rattle.std.proofs.lemmas.List.{length-set}
 use Rattle.band_balance.specs.Line.{Waiting, leave_waker}
 use Rattle.band_balance.proofs.Requests.{entries-leave_waker}
 use Rattle.band_sem.specs.Semaphore.{is_slot}
-use Rattle.band_sem.proofs.Line.{HeadWaits-leave_waker}
 use Rattle.band_sem.proofs.Places.{IsFirst-position, leave_waker-first, leave_waker-nowhere, nowhere-position}
-use Rattle.band_sem.proofs.store.Store.leave_waker.Goals as goal
+use Rattle.band_sem.proofs.queue.Queue.leave_waker.Goals as goal
 
 abbrev with_waker : ℕ → Waiting ℕ → Waiting ℕ
 with_waker waker w = record w { waker = waker }
@@ -21,29 +20,22 @@ written c =
 pub returns-in-Some-clause-state : goal.returns-in-Some-clause-state
 returns-in-Some-clause-state c =
     let s = c.args.self.now in
-    ap (λ ws. record { number = s.number; line = record { free = s.free; waiting = ws; granted = s.granted.items; wakes = s.wakes.wakers }; held = s.held }) (written c)
+    ap (λ ws. record { waiting = ws; granted = s.granted.items; wakes = s.wakes.wakers }) (written c)
 
-pub returns-in-Some-clause-sound : goal.returns-in-Some-clause-sound
-returns-in-Some-clause-sound c =
+pub returns-in-Some-clause-orderly : goal.returns-in-Some-clause-orderly
+returns-in-Some-clause-orderly c =
     let s = c.args.self.now in
-    let kept = c.requires.kept in
     let same = length-set s.waiting.items c.in-Some.place c.leave.new.self in
     record {
-      kept = record {
-        slots_rise = rw (written c, entries-leave_waker (is_slot c.args.slot) c.args.waker.0 s.waiting.items) kept.slots_rise;
-        granted_sum = kept.granted_sum;
-        in_hand = kept.in_hand;
-        in_all = kept.in_all;
-        owed = kept.owed;
-        grants_fit = rw same kept.grants_fit;
-        wakes_fit = rw same kept.wakes_fit;
-      };
-      head_waits = rw (written c) (HeadWaits-leave_waker (is_slot c.args.slot) c.args.waker.0 s.free s.waiting.items c.requires.head_waits);
+      slots_rise = rw (written c, entries-leave_waker (is_slot c.args.slot) c.args.waker.0 s.waiting.items) c.requires.slots_rise;
+      granted_sum = c.requires.granted_sum;
+      grants_fit = rw same c.requires.grants_fit;
+      wakes_fit = rw same c.requires.wakes_fit;
     }
 
 pub returns-in_default-clause-state : goal.returns-in_default-clause-state
 returns-in_default-clause-state c =
     let s = c.args.self.now in
     let nowhere = nowhere-position (λ w. is_slot c.args.slot w.name) s.waiting.items (sym c.place_waiting.ensures ∙ c.in_default.is) in
-    ap (λ ws. record { number = s.number; line = record { free = s.free; waiting = ws; granted = s.granted.items; wakes = s.wakes.wakers }; held = s.held })
+    ap (λ ws. record { waiting = ws; granted = s.granted.items; wakes = s.wakes.wakers })
     (sym (leave_waker-nowhere (is_slot c.args.slot) c.args.waker.0 s.waiting.items nowhere))

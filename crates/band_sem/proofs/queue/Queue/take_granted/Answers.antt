@@ -1,14 +1,13 @@
 use Rattle.std.proofs.Common.{◌≡◌, ℕ, ◌+◌, ap, sym, ◌∙◌, arith, refl, true, nat_eq, Some}
 use Rattle.std.specs.List.{remove}
 use Rattle.std.proofs.lemmas.Bool.Decides.{nat_tests}
-use Rattle.std.proofs.lemmas.Int.{ints}
 use Rattle.std.proofs.lemmas.List.Edits.{length-remove}
 use Rattle.std.proofs.lemmas.List.Sums.{sum_by-remove}
 use Rattle.band_balance.specs.Line.{Entry, without, total, entry_named}
 use Rattle.band_sem.specs.Semaphore.{is_slot}
 use Rattle.band_sem.proofs.Places.{IsFirst, IsFirst-position, find-first, find-nowhere, without-first, nowhere-position, OnSome-holds}
 use Rattle.band_sem.proofs.Slots.{Rises-without}
-use Rattle.band_sem.proofs.store.Store.take_granted.Goals as goal
+use Rattle.band_sem.proofs.queue.Queue.take_granted.Goals as goal
 
 same_name : (a b : ℕ) → nat_eq a b ≡ true → b ≡ a
 same_name a b h = grind (arith, nat_tests)
@@ -41,27 +40,20 @@ pub returns-in-Some-remove-clause-takes : goal.returns-in-Some-remove-clause-tak
 returns-in-Some-remove-clause-takes c =
     let s = c.args.self.now in (
       named c,
-      ap (λ es. record { number = s.number; line = record { free = s.free; waiting = s.waiting.items; granted = es; wakes = s.wakes.wakers }; held = s.held }) (left c),
+      ap (λ es. record { waiting = s.waiting.items; granted = es; wakes = s.wakes.wakers }) (left c),
       sized c,
     )
 
-pub returns-in-Some-remove-clause-sound : goal.returns-in-Some-remove-clause-sound
-returns-in-Some-remove-clause-sound c =
+pub returns-in-Some-remove-clause-orderly : goal.returns-in-Some-remove-clause-orderly
+returns-in-Some-remove-clause-orderly c =
     let s = c.args.self.now in
-    let kept = c.requires.kept in
     let less = sized c in
     let shorter = length-remove s.granted.items c.in-Some.place (first c).within in
     record {
-      kept = record {
-        slots_rise = rw (left c) (Rises-without (is_slot c.args.slot) 0 s.next_slot s.granted.items _ kept.slots_rise);
-        granted_sum = omega (arith, kept.granted_sum);
-        in_hand = omega (arith, kept.in_hand);
-        in_all = omega (arith, ints, kept.in_all);
-        owed = kept.owed;
-        grants_fit = rw (removed c, c.remove.ensures.capacity) (omega (arith, kept.grants_fit));
-        wakes_fit = kept.wakes_fit;
-      };
-      head_waits = c.requires.head_waits;
+      slots_rise = rw (left c) (Rises-without (is_slot c.args.slot) 0 s.next_slot s.granted.items _ c.requires.slots_rise);
+      granted_sum = omega (arith, c.requires.granted_sum);
+      grants_fit = rw (removed c, c.remove.ensures.capacity) (omega (arith, c.requires.grants_fit));
+      wakes_fit = c.requires.wakes_fit;
     }
 
 pub returns-in_default-clause-takes : goal.returns-in_default-clause-takes
