@@ -13,8 +13,8 @@ use Rattle.band_balance.proofs.Settle.{total-append}
 use Rattle.band_sem.specs.Semaphore.{is_slot}
 use Rattle.band_play.specs.Objects.{IsSteady, ObjectState, Fits}
 use Rattle.band_sem.specs.declared.acquire.Stage.TheVariants.{Joined}
-use Rattle.band_play.specs.declared.thing.Thing.{Thing}
-use Rattle.band_play.specs.declared.thing.Thing.TheVariants as things
+use Rattle.band_play.specs.Thing.{Thing}
+use Rattle.band_play.specs.Thing as things
 use Rattle.band_play.specs.State.{State, Named, Tag, is_tag, tag}
 use Rattle.band_play.specs.Table.{StandsAt, StandsUnder, request_at, holding_at}
 use Rattle.band_play.proofs.Lists.{by_bool, at_set_same, cond_true, cond_false}

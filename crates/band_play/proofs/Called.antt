@@ -8,7 +8,7 @@ use Rattle.band_sem.specs.declared.refusal.Refusal.{Refusal}
 use Rattle.band_sem.specs.declared.errors.ReleaseError.{ReleaseError}
 use Rattle.band_sem.specs.declared.errors.ReleaseError.TheVariants.{Overflow}
 use Rattle.band_play.specs.declared.table.Table.{Table}
-use Rattle.band_play.specs.declared.thing.Thing.{Thing}
+use Rattle.band_play.specs.Thing.{Thing}
 use Rattle.band_play.specs.declared.reply.Reply.{Reply}
 use Rattle.band_play.specs.declared.reply.Reply.TheVariants as replies
 use Rattle.band_play.specs.Names.{thing_at}

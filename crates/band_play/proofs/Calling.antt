@@ -8,8 +8,8 @@ use Rattle.band_balance.specs.Object as answers
 use Rattle.band_play.specs.Objects.{IsSteady, ObjectState, Fits}
 use Rattle.band_sem.specs.declared.refusal.Refusal.TheVariants as refusals
 use Rattle.band_play.specs.declared.reply.Reply.TheVariants as replies
-use Rattle.band_play.specs.declared.thing.Thing.{Thing}
-use Rattle.band_play.specs.declared.thing.Thing.TheVariants as things
+use Rattle.band_play.specs.Thing.{Thing}
+use Rattle.band_play.specs.Thing as things
 use Rattle.band_play.specs.Names.{Updated}
 use Rattle.band_play.specs.State.{State, Named, Tag, tag, standing}
 use Rattle.band_play.specs.Step.{Outcome, refused, after_turn, turn_of, turn_at, unless_taken, is_of, calling_for, trying, releasing, reducing, draining, showing, reply_of}

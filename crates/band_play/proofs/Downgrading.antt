@@ -9,8 +9,8 @@ use Rattle.band_balance.proofs.Requests.{requests-give_back}
 use Rattle.band_balance.proofs.Settle.{total-without}
 use Rattle.band_play.specs.Objects.{ObjectState, HoldingState, IsSteady, Fits}
 use Rattle.band_play.specs.declared.reply.Reply.TheVariants as replies
-use Rattle.band_play.specs.declared.thing.Thing.{Thing}
-use Rattle.band_play.specs.declared.thing.Thing.TheVariants as things
+use Rattle.band_play.specs.Thing.{Thing}
+use Rattle.band_play.specs.Thing as things
 use Rattle.band_play.specs.Names.{Updated}
 use Rattle.band_play.specs.State.{State, Named, Tag, is_tag, tag, standing}
 use Rattle.band_play.specs.Step.{same_mode, turn_of, turn_at, downgrading}

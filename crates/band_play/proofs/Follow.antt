@@ -21,8 +21,8 @@ use Rattle.band_sem.specs.declared.refusal.Refusal.TheVariants as refusals
 use Rattle.band_sem.specs.declared.acquire.Stage.TheVariants.{NotPolled, Joined}
 use Rattle.band_play.specs.declared.reply.Reply.{Reply}
 use Rattle.band_play.specs.declared.reply.Reply.TheVariants as replies
-use Rattle.band_play.specs.declared.thing.Thing.{Thing}
-use Rattle.band_play.specs.declared.thing.Thing.TheVariants as things
+use Rattle.band_play.specs.Thing.{Thing}
+use Rattle.band_play.specs.Thing as things
 use Rattle.band_play.specs.Names.{Updated}
 use Rattle.band_play.specs.State.{State, Named, Tag, is_tag, tag, standing}
 use Rattle.band_play.specs.Step.{Outcome, reply_of, refused, after_turn, turn_of, turn_at, unless_taken, is_of, on_kind, with_object, on_object, calling, calling_for, asking, polling, dropping}

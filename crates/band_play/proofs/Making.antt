@@ -8,8 +8,8 @@ use Rattle.band_balance.specs.Object.{Object, Kind}
 use Rattle.band_play.specs.Objects.{ObjectState, IsSteady}
 use Rattle.band_sem.specs.declared.refusal.Refusal.TheVariants as refusals
 use Rattle.band_play.specs.declared.reply.Reply.TheVariants as replies
-use Rattle.band_play.specs.declared.thing.Thing.{Thing}
-use Rattle.band_play.specs.declared.thing.Thing.TheVariants as things
+use Rattle.band_play.specs.Thing.{Thing}
+use Rattle.band_play.specs.Thing as things
 use Rattle.band_play.specs.Names.{Updated}
 use Rattle.band_play.specs.declared.object.New.{New}
 use Rattle.band_play.specs.Moves.{kind_made, count_made}

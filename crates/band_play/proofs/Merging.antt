@@ -16,8 +16,8 @@ use Rattle.band_play.specs.Objects.{ObjectState, HoldingState, Fits}
 use Rattle.band_sem.specs.declared.refusal.Refusal.{Refusal}
 use Rattle.band_sem.specs.declared.refusal.Refusal.TheVariants as refusals
 use Rattle.band_play.specs.declared.reply.Reply.TheVariants as replies
-use Rattle.band_play.specs.declared.thing.Thing.{Thing}
-use Rattle.band_play.specs.declared.thing.Thing.TheVariants as things
+use Rattle.band_play.specs.Thing.{Thing}
+use Rattle.band_play.specs.Thing as things
 use Rattle.band_play.specs.declared.table.Table.{Table}
 use Rattle.band_play.specs.Kept.{IsSound}
 use Rattle.band_play.specs.Names.{Updated, thing_at}

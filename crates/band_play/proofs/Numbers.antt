@@ -12,8 +12,8 @@ use Rattle.band_balance.proofs.Rename.{is_served-rename, give_back-rename, avail
 use Rattle.band_balance.proofs.Requests.{requests-give_back}
 use Rattle.band_sem.specs.Semaphore.{is_slot}
 use Rattle.band_play.specs.Objects.{IsSteady, ObjectState, Fits}
-use Rattle.band_play.specs.declared.thing.Thing.{Thing}
-use Rattle.band_play.specs.declared.thing.Thing.TheVariants as things
+use Rattle.band_play.specs.Thing.{Thing}
+use Rattle.band_play.specs.Thing as things
 use Rattle.band_play.specs.State.{State, Named, Tag, tag}
 use Rattle.band_play.specs.Table.{StandsAt, StandsUnder, IsKnown, quiet}
 use Rattle.band_play.proofs.Lists.{by_bool, at_set_same, at_set_other, cond_false}

@@ -9,8 +9,8 @@ use Rattle.band_balance.specs.Object.{Object, Kind, Semaphore, Mutex, ReaderWrit
 use Rattle.band_balance.proofs.Requests.{entry_named-without_other}
 use Rattle.band_sem.specs.Semaphore.{IsLawful, SemaphoreState}
 use Rattle.band_play.specs.Objects.{ObjectState, IsSteady, IsLockOf, Fits}
-use Rattle.band_play.specs.declared.thing.Thing.{Thing}
-use Rattle.band_play.specs.declared.thing.Thing.TheVariants as things
+use Rattle.band_play.specs.Thing.{Thing}
+use Rattle.band_play.specs.Thing as things
 use Rattle.band_play.specs.Names.{Updated}
 use Rattle.band_play.specs.State.{State, Named, Tag, is_tag, permit_tag}
 use Rattle.band_play.specs.Table.{StandsAt, StandsUnder}

@@ -10,8 +10,8 @@ use Rattle.band_balance.proofs.Requests.{requests-give_back, entry_named-without
 use Rattle.band_balance.proofs.Settle.{total-without}
 use Rattle.band_sem.specs.Semaphore.{is_slot}
 use Rattle.band_play.specs.Objects.{IsSteady, ObjectState, RequestState, HoldingState, Fits}
-use Rattle.band_play.specs.declared.thing.Thing.{Thing}
-use Rattle.band_play.specs.declared.thing.Thing.TheVariants as things
+use Rattle.band_play.specs.Thing.{Thing}
+use Rattle.band_play.specs.Thing as things
 use Rattle.band_play.specs.State.{State, Named, Tag, is_tag, tag}
 use Rattle.band_play.specs.Table.{StandsAt, StandsUnder, request_at, holding_at}
 use Rattle.band_play.specs.Names.{Updated}

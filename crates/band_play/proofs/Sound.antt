@@ -11,8 +11,8 @@ use Rattle.band_balance.specs.Object.{Kind, Semaphore, Mutex, ReaderWriter, Mode
 use Rattle.band_play.specs.Objects.{ObjectState, RequestState, HoldingState, Fits}
 use Rattle.band_sem.specs.declared.acquire.Stage.{Stage}
 use Rattle.band_sem.specs.declared.acquire.Stage.TheVariants.{NotPolled, Joined, Finished}
-use Rattle.band_play.specs.declared.thing.Thing.{Thing}
-use Rattle.band_play.specs.declared.thing.Thing.TheVariants as things
+use Rattle.band_play.specs.Thing.{Thing}
+use Rattle.band_play.specs.Thing as things
 use Rattle.band_play.specs.declared.table.Table.{Table}
 use Rattle.band_play.specs.declared.reply.Reply.{Reply}
 use Rattle.band_play.specs.Names.{thing_at}

@@ -8,8 +8,8 @@ use Rattle.band_balance.specs.Line.{Entry, requests, rename, renamed}
 use Rattle.band_balance.proofs.Rename.{requests-rename}
 use Rattle.band_sem.specs.Semaphore.{is_slot}
 use Rattle.band_play.specs.Objects.{ObjectState}
-use Rattle.band_play.specs.declared.thing.Thing.{Thing}
-use Rattle.band_play.specs.declared.thing.Thing.TheVariants as things
+use Rattle.band_play.specs.Thing.{Thing}
+use Rattle.band_play.specs.Thing as things
 use Rattle.band_play.specs.State.{State, Named, Tag, is_tag, tag, stands_in, Standing, Absent, AnObject, ARequest, AHolding, standing, standing_from}
 use Rattle.band_play.specs.Table.{StandsAt, StandsUnder, IsKnown, quiet}
 use Rattle.band_play.proofs.Lists.{by_test, passing, any_from_find, Along, along_from_places, Somewhere, somewhere_at, also_at}

@@ -1,7 +1,6 @@
 -- Each object of a state that is stood for is lawful: what is kept of it is.
-use Rattle.std.proofs.Common.{◌≡◌, ℕ, ◌+◌, ◌<◌, suc, ◌≤◌, true, false, List, [], ◌∷◌, ◌++◌, map, Option, Some, None, ℤ, pos, neg_ℤ, ◌+ℤ◌, ◌≤ℤ◌, refl, sym, ap, ap₂, ◌∙◌, subst, arith}
+use Rattle.std.proofs.Common.{◌≡◌, ℕ, ◌+◌, ◌<◌, suc, ◌≤◌, true, false, List, [], ◌∷◌, ◌++◌, map, Option, Some, ℤ, pos, neg_ℤ, ◌+ℤ◌, ◌≤ℤ◌, refl, sym, ap, ap₂, ◌∙◌, subst, arith}
 use Rattle.std.specs.List.{AllByRecursion, slice_get}
-use Rattle.std.proofs.lemmas.Option.{same_Some}
 use Rattle.band_balance.specs.Line.{Entry, Waiting, Line, requests, total, u64_max, renamed, renamed_waiting, rename}
 use Rattle.band_balance.specs.Object.{Object, Kind, Semaphore, Mutex, ReaderWriter, Mode, Permit, Lock, Read, Write, size_of}
 use Rattle.band_balance.specs.Settled.{HeadWaits}
@@ -14,11 +13,11 @@ use Rattle.band_play.specs.Moves.{FitsRequest, FitsHolding}
 use Rattle.band_play.specs.Names.{thing_at}
 use Rattle.band_play.specs.Objects.{ObjectState, IsLockOf, Fits, shares_of}
 use Rattle.band_play.specs.Player.{KeepsLaws}
-use Rattle.band_play.specs.State.{State, Named, Tag, tag}
+use Rattle.band_play.specs.State.{State, Named, Tag}
 use Rattle.band_play.specs.Step.{is_of}
 use Rattle.band_play.specs.Table.{StandsAt, StandsUnder, quiet, request_at, holding_at}
 use Rattle.band_play.specs.declared.player.Player.{Player}
-use Rattle.band_play.specs.declared.thing.Thing.{Thing}
+use Rattle.band_play.specs.Thing.{Thing}
 use Rattle.band_sem.specs.declared.acquire.Stage.TheVariants.{Joined}
 use Rattle.band_play.proofs.Change.{all_weaker}
 use Rattle.band_play.proofs.Excluding.{exclusive_as}

@@ -2,20 +2,18 @@
 use Rattle.std.proofs.lemmas.Bool.{false≢true}
 use Rattle.std.proofs.Common.{◌≡◌, ℕ, ◌<◌, Bool, true, false, cond, List, [], ◌∷◌, ◌++◌, Option, Some, None, Result, Ok, Err, zero, suc, refl, sym, ap, ◌∙◌, subst, arith, length}
 use Rattle.std.specs.List.{slice_get}
-use Rattle.std.specs.Map.{lookup}
-use Rattle.std.specs.BTreeMap.{BTreeMap, IsUnchanged, is_at}
-use Rattle.std.specs.Ordering.{nat_cmp}
-use Rattle.std.specs.Cmp.Lexicographic.{slice_cmp}
 use Rattle.std.specs.Option.{IsSome}
 use Rattle.std.specs.Result.{OnErr, is_ok}
 use Rattle.std.proofs.lemmas.Option.{none-some}
 use Rattle.band_balance.specs.Object.{Object, Kind, Permit}
-use Rattle.band_play.specs.Objects.{ObjectState, IsSteady}
+use Rattle.band_play.specs.Objects.{ObjectState, HoldingState, IsSteady}
 use Rattle.band_sem.specs.declared.refusal.Refusal.{Refusal}
 use Rattle.band_sem.specs.declared.refusal.Refusal.TheVariants as refusals
 use Rattle.band_play.specs.declared.object.Want.{Want}
-use Rattle.band_play.specs.declared.thing.Thing.{Thing}
-use Rattle.band_play.specs.declared.thing.Thing.TheVariants as things
+use Rattle.band_play.specs.Thing.{Thing}
+use Rattle.band_play.specs.Thing as things
+use Rattle.band_play.specs.Token.{TokenState, thing_of}
+use Rattle.band_play.specs.Token as tokens
 use Rattle.band_play.specs.declared.table.Table.{Table}
 use Rattle.band_play.specs.declared.reply.Reply.{Reply}
 use Rattle.band_play.specs.declared.reply.Reply.TheVariants as replies
@@ -36,9 +34,9 @@ updated_twice a b d name v w first second = record {
   others = λ n other. second.others n other ∙ first.others n other;
 }
 
--- a map with the same entries has the same at each name
-pub same_names : (m n : BTreeMap (List ℕ) Thing) → IsUnchanged m n → (name : List ℕ) → thing_at n name ≡ thing_at m name
-same_names m n same name = ap (λ es. lookup (is_at (slice_cmp nat_cmp name)) es) same
+-- a token that is a holding is set as one
+pub set_holding : (table table' : List ℕ → Option Thing) (name : List ℕ) (token : TokenState) (holding : HoldingState) → token ≡ tokens.Holding holding → Updated table table' name (Some (thing_of token)) → Updated table table' name (Some (things.Holding holding))
+set_holding table table' name token holding is update = subst (λ (t : TokenState). Updated table table' name (Some (thing_of t))) is update
 
 pub some_of : {A : Type 0} (o : Option A) → IsSome o → (x : A) × (o ≡ Some x)
 some_of None h = cc
@@ -225,12 +223,12 @@ pushed old room new result x sem kind place n items ok same is count =
     items ∙ ap (λ r. cond (is_ok r) (room ++ sem ∷ []) room) ok ∙ ap (λ (xs : List ObjectState). xs ++ sem ∷ []) same ∙ ap (λ (s : ObjectState). old ++ s ∷ []) (is ∙ ap (λ k. fresh kind k n) count)
 
 -- nothing stands for the state with no object
-pub stands_nowhere : (names : BTreeMap (List ℕ) Thing) (sems : List ObjectState) → names.entries ≡ [] → sems ≡ [] → Stands (thing_at names) sems []
-stands_nowhere names sems no_names no_sems = (
+pub stands_nowhere : (table : List ℕ → Option Thing) (sems : List ObjectState) → ((name : List ℕ) → table name ≡ None) → sems ≡ [] → Stands table sems []
+stands_nowhere table sems no_names no_sems = (
   (λ place slot. record { name = []; mode = Permit }),
   record {
     size = ap length no_sems;
     each = λ place sem named at_sem at_named. absurd (none-some named at_named);
-    every = λ name. subst (λ (o : Option Thing). IsKnown (λ place slot. record { name = []; mode = Permit }) sems [] name o) (sym (ap (λ es. lookup (is_at (slice_cmp nat_cmp name)) es) no_names)) tt;
+    every = λ name. subst (λ (o : Option Thing). IsKnown (λ place slot. record { name = []; mode = Permit }) sems [] name o) (sym (no_names name)) tt;
   },
 )

@@ -8,8 +8,8 @@ use Rattle.band_balance.specs.Line.{Entry, Line, requests, rename, total}
 use Rattle.band_balance.specs.Object.{Object, Turn, Answer, turn}
 use Rattle.band_sem.specs.Semaphore.{is_slot}
 use Rattle.band_play.specs.Objects.{IsSteady, ObjectState}
-use Rattle.band_play.specs.declared.thing.Thing.{Thing}
-use Rattle.band_play.specs.declared.thing.Thing.TheVariants as things
+use Rattle.band_play.specs.Thing.{Thing}
+use Rattle.band_play.specs.Thing as things
 use Rattle.band_play.specs.State.{State, Named, Tag, is_tag}
 use Rattle.band_play.specs.Table.{StandsAt, StandsUnder, IsKnown, request_at, holding_at, quiet}
 use Rattle.band_play.proofs.Lists.{by_bool}

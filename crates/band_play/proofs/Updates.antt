@@ -1,16 +1,100 @@
--- What the map says of a change, by names.
-use Rattle.std.proofs.Common.{ℕ, List, Option, ◌∙◌}
+-- What the maps of the names say of a change, by names.
+use Rattle.std.proofs.Common.{◌≡◌, ℕ, true, false, List, Option, Some, None, Result, Ok, Err, refl, sym, ap, ap₂, ◌∙◌}
+use Rattle.std.proofs.lemmas.Bool.{false≢true}
+use Rattle.std.proofs.lemmas.Option.{none-some}
 use Rattle.std.specs.Ordering.{nat_cmp}
 use Rattle.std.specs.Cmp.Lexicographic.{slice_cmp}
-use Rattle.std.specs.BTreeMap.{BTreeMap, is_at, Updates}
+use Rattle.std.specs.BTreeMap.{BTreeMap, is_at, Updates, IsUnchanged}
+use Rattle.std.specs.Map.{lookup}
+use Rattle.std.specs.Result.{OnOk, OnErr}
+use Rattle.std.specs.Str.{bytes_eq}
 use Rattle.std.proofs.lemmas.Map.Text.{is_eq-slice_cmp}
-use Rattle.band_play.specs.declared.thing.Thing.{Thing}
-use Rattle.band_play.specs.Names.{thing_at, Updated}
-use Rattle.band_play.proofs.Lists.{cond_true, cond_false}
+use Rattle.band_play.specs.Apart.{at, AreApart}
+use Rattle.band_play.specs.Thing.{Thing}
+use Rattle.band_play.specs.Thing as things
+use Rattle.band_play.specs.Token.{TokenState, thing_of}
+use Rattle.band_play.specs.declared.names.Names.{Names}
+use Rattle.band_play.specs.Names.{thing_from, table_of, thing_at, Updated, is_object}
+use Rattle.band_play.proofs.Lists.{by_bool, cond_true, cond_false}
+use Rattle.band_play.proofs.Standing.{same_bytes}
 
--- the map's own words for a change give ours
-pub updated : (m n : BTreeMap (List ℕ) Thing) (k : List ℕ) (w : Option Thing) → Updates (slice_cmp nat_cmp) m n k w → Updated (thing_at m) (thing_at n) k w
-updated m n k w u = record {
-  here = λ q same. u.0 q ∙ cond_true (is_at (slice_cmp nat_cmp k) q) w (thing_at m q) (is_eq-slice_cmp k q ∙ same);
-  others = λ q other. u.0 q ∙ cond_false (is_at (slice_cmp nat_cmp k) q) w (thing_at m q) (is_eq-slice_cmp k q ∙ other);
-}
+-- what a map has after a change
+module _ {X : Type 0} (m n : BTreeMap (List ℕ) X) (k : List ℕ) (w : Option X) (u : Updates (slice_cmp nat_cmp) m n k w) (q : List ℕ) where
+  at_changed : bytes_eq k q ≡ true → at n q ≡ w
+  at_changed same = u.0 q ∙ cond_true (is_at (slice_cmp nat_cmp k) q) w (at m q) (is_eq-slice_cmp k q ∙ same)
+
+  at_kept : bytes_eq k q ≡ false → at n q ≡ at m q
+  at_kept other = u.0 q ∙ cond_false (is_at (slice_cmp nat_cmp k) q) w (at m q) (is_eq-slice_cmp k q ∙ other)
+
+-- the same entries, the same at each name
+at_same : {X : Type 0} (m n : BTreeMap (List ℕ) X) → IsUnchanged m n → (name : List ℕ) → at n name ≡ at m name
+at_same m n same name = ap (λ es. lookup (is_at (slice_cmp nat_cmp name)) es) same
+
+no_token : (o : Option ℕ) (t : Option TokenState) → thing_from o t ≡ None → t ≡ None
+no_token None None is = refl
+no_token None (Some token) is = absurd (none-some (thing_of token) (sym is))
+no_token (Some place) t is = absurd (none-some (things.Object place) (sym is))
+
+no_place : (o : Option ℕ) (t : Option TokenState) → is_object (thing_from o t) ≡ false → o ≡ None
+no_place None t test = refl
+no_place (Some place) t test = absurd (false≢true (sym test))
+
+none_unless : (o : Option ℕ) → ((place : ℕ) → o ≡ Some place → ⊥) → o ≡ None
+none_unless None never = refl
+none_unless (Some place) never = absurd (never place refl)
+
+module _ (names : Names) (k : List ℕ) where
+  pub free_of_token : thing_at names k ≡ None → at names.tokens k ≡ None
+  free_of_token = no_token (at names.objects k) (at names.tokens k)
+
+  pub free_of_object : is_object (thing_at names k) ≡ false → at names.objects k ≡ None
+  free_of_object = no_place (at names.objects k) (at names.tokens k)
+
+  -- a token's name is no object's
+  pub no_object : (token : TokenState) → at names.tokens k ≡ Some token → at names.objects k ≡ None
+  no_object token is = none_unless (at names.objects k) (λ place there. names.apart k place token there is)
+
+  pub token_there : (token : TokenState) → at names.tokens k ≡ Some token → thing_at names k ≡ Some (thing_of token)
+  token_there token is = ap₂ thing_from (no_object token is) is
+
+  pub object_there : (place : ℕ) → at names.objects k ≡ Some place → thing_at names k ≡ Some (things.Object place)
+  object_there place is = ap (λ o. thing_from o (at names.tokens k)) is
+
+  -- a new object
+  module _ (objects : BTreeMap (List ℕ) ℕ) (place : ℕ) where
+    pub object_added : Updates (slice_cmp nat_cmp) names.objects objects k (Some place) → Updated (thing_at names) (table_of objects names.tokens) k (Some (things.Object place))
+    object_added update = record {
+      here = λ q same. ap (λ o. thing_from o (at names.tokens q)) (at_changed names.objects objects k _ update q same);
+      others = λ q other. ap (λ o. thing_from o (at names.tokens q)) (at_kept names.objects objects k _ update q other);
+    }
+
+    pub object_apart : {A E : Type 0} (result : Result A E) → at names.tokens k ≡ None → OnOk result (Updates (slice_cmp nat_cmp) names.objects objects k (Some place)) → OnErr result (IsUnchanged names.objects objects)
+        → AreApart objects names.tokens
+    object_apart (Ok x) free update same name p token is_place is_token = by_bool (bytes_eq k name)
+        (λ same_name. none-some token (sym free ∙ ap (at names.tokens) (same_bytes k name same_name) ∙ is_token))
+        (λ other. names.apart name p token (sym (at_kept names.objects objects k _ update name other) ∙ is_place) is_token)
+    object_apart (Err e) free update same name p token is_place is_token = names.apart name p token (sym (at_same names.objects objects same name) ∙ is_place) is_token
+
+  -- another token, or none
+  module _ (tokens : BTreeMap (List ℕ) TokenState) where
+    pub token_changed : (w : Option TokenState) → at names.objects k ≡ None → Updates (slice_cmp nat_cmp) names.tokens tokens k w → Updated (thing_at names) (table_of names.objects tokens) k (thing_from None w)
+    token_changed w free update = record {
+      here = λ q same. ap₂ thing_from (ap (at names.objects) (sym (same_bytes k q same)) ∙ free) (at_changed names.tokens tokens k w update q same);
+      others = λ q other. ap (thing_from (at names.objects q)) (at_kept names.tokens tokens k w update q other);
+    }
+
+    pub tokens_apart : (w : Option TokenState) → at names.objects k ≡ None → Updates (slice_cmp nat_cmp) names.tokens tokens k w → AreApart names.objects tokens
+    tokens_apart w free update name p token is_place is_token = by_bool (bytes_eq k name)
+        (λ same. none-some p (sym free ∙ ap (at names.objects) (same_bytes k name same) ∙ is_place))
+        (λ other. names.apart name p token is_place (sym (at_kept names.tokens tokens k w update name other) ∙ is_token))
+
+    pub token_apart : {A E : Type 0} (result : Result A E) (w : Option TokenState) → at names.objects k ≡ None → OnOk result (Updates (slice_cmp nat_cmp) names.tokens tokens k w) → OnErr result (IsUnchanged names.tokens tokens)
+        → AreApart names.objects tokens
+    token_apart (Ok x) w free update same name p token is_place is_token = tokens_apart w free update name p token is_place is_token
+    token_apart (Err e) w free update same name p token is_place is_token = names.apart name p token is_place (sym (at_same names.tokens tokens same name) ∙ is_token)
+
+    pub tokens_kept : (thing : Option Thing) → thing_at names k ≡ thing → IsUnchanged names.tokens tokens → Updated (thing_at names) (table_of names.objects tokens) k thing
+    tokens_kept thing is same = record {
+      here = λ q same_name. ap (thing_from (at names.objects q)) (at_same names.tokens tokens same q) ∙ ap (thing_at names) (sym (same_bytes k q same_name)) ∙ is;
+      others = λ q other. ap (thing_from (at names.objects q)) (at_same names.tokens tokens same q);
+    }

@@ -12,8 +12,8 @@ use Rattle.band_balance.specs.Object.{Kind, Semaphore, Mutex, ReaderWriter}
 use Rattle.band_sem.specs.Semaphore.{IsLawful, is_slot}
 use Rattle.band_lock.specs.Lock.{IsLock}
 use Rattle.band_play.specs.Objects.{ObjectState, IsSteady, IsLockOf, Fits, shares_of}
-use Rattle.band_play.specs.declared.thing.Thing.{Thing}
-use Rattle.band_play.specs.declared.thing.Thing.TheVariants as things
+use Rattle.band_play.specs.Thing.{Thing}
+use Rattle.band_play.specs.Thing as things
 use Rattle.band_play.specs.State.{State, Named, Tag}
 use Rattle.band_play.specs.Table.{StandsAt, StandsUnder, IsKnown}
 use Rattle.band_play.specs.Kept.{OthersQuiet}

@@ -1,4 +1,5 @@
 pub mod Answers
+pub mod Apart
 pub mod Bounds
 pub mod Conservation
 pub mod Exclusion
@@ -21,6 +22,8 @@ pub mod State
 pub mod Step
 pub mod Table
 pub mod Text
+pub mod Thing
+pub mod Token
 pub mod Woken
 pub mod Words
 pub use Rattle.band_balance.specs.Line

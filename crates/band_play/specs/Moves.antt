@@ -23,8 +23,8 @@ use Rattle.band_play.specs.declared.object.Want.TheVariants as wants
 use Rattle.band_play.specs.declared.reply.Reply.{Reply}
 use Rattle.band_play.specs.declared.reply.Reply.TheVariants as replies
 use Rattle.band_play.specs.Names.{Updated}
-use Rattle.band_play.specs.declared.thing.Thing.{Thing}
-use Rattle.band_play.specs.declared.thing.Thing.TheVariants as things
+use Rattle.band_play.specs.Thing.{Thing}
+use Rattle.band_play.specs.Thing as things
 
 abbrev pub IsJoined : Stage → Type 0
 IsJoined stages.NotPolled = ⊥
@@ -142,6 +142,12 @@ held_as mode None = Err Unknown
 held_as mode (Some (things.Object place)) = Err Kind
 held_as mode (Some (things.Request place request)) = Err Kind
 held_as mode (Some (things.Holding holding)) = if same_mode mode holding.mode then Ok holding else Err Kind
+
+-- it is held in a mode, of the object at a place
+pub record HeldAt (mode : Mode) (found : Option Thing) (place : ℕ) : Type 0 where
+  pub holding : HoldingState
+  pub is : held_as mode found ≡ Ok holding
+  pub at : place ≡ holding.of
 
 -- the place of the object that a thing is, or is of
 abbrev pub place_at : Thing → ℕ

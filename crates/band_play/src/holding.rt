@@ -47,7 +47,6 @@ impl Holding {
     ghost use Rattle.band_balance.specs.Object.{Permit, Read, Write};
     ghost use Rattle.band_play.specs.Objects.{IsSteady, Fits};
     ghost use Rattle.band_play.specs.Moves.{downgraded};
-    ghost use Rattle.band_play.specs.Step.{same_mode};
 
     /// Gives it back.
     pub(crate) fn drop_to<L: Ledger>(self, object: &mut Object, steps: &mut Steps<L>)
@@ -71,20 +70,6 @@ impl Holding {
             ),
             (any, _) => Holding { any }.lose(),
         }
-    }
-
-    /// Whether it is a permit of a semaphore.
-    pub(crate) fn is_permit(&self) -> bool
-        ensures { result ≡ same_mode Permit self.now.mode }
-    {
-        matches!(self.any, AnyHolding::Permit(_))
-    }
-
-    /// Whether it is the right to write.
-    pub(crate) fn is_writer(&self) -> bool
-        ensures { result ≡ same_mode Write self.now.mode }
-    {
-        matches!(self.any, AnyHolding::Write(_))
     }
 
     /// The number of its object.

@@ -22,7 +22,7 @@ mod request;
 mod script;
 mod table;
 mod text;
-mod thing;
+mod token;
 mod words;
 
 pub use call::Call;

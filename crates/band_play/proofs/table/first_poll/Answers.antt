@@ -4,7 +4,9 @@ use Rattle.std.proofs.lemmas.Option.{slice_get_read}
 use Rattle.band_base.specs.declared.poll.Poll.TheVariants as polls
 use Rattle.band_sem.specs.declared.acquire.Stage.TheVariants.{NotPolled}
 use Rattle.band_play.specs.Objects.{RequestState, Fits}
-use Rattle.band_play.specs.Moves.{PollsAs, kind_at, mode_of, size_for}
+use Rattle.band_play.specs.declared.reply.Reply.TheVariants as replies
+use Rattle.band_play.specs.Token.{TokenState, thing_of}
+use Rattle.band_play.specs.Moves.{PollsAs, IsAnswered, kind_at, mode_of, size_for}
 use Rattle.band_play.proofs.Called.{set_itself}
 use Rattle.band_play.proofs.Follow.{want_fits, unmoved, ready_answered, pending_answered}
 use Rattle.band_play.proofs.table.first_poll.Goals as goal
@@ -33,7 +35,9 @@ returns-in-Ok-Ready-clause-ok g c =
         set = refl;
         lawful = c.poll_once.ensures.steady;
         polled = subst (λ (r : RequestState). PollsAs r c.args.waker.0 sem c.poll_once.result c.poll_once.new.self c.poll_once.new.object) asked c.poll_once.ensures.polls;
-        answered = ready_answered c.args.place c.poll_once.result c.poll_once.new.self c.in-Ok-Ready.holding (c.in-Ok-Ready.is ∙ ap Ok (c.in-Ok-Ready.field-0-is ∙ ap polls.Ready c.in-Ok-Ready.holding-is));
+        answered =
+            subst (λ (t : TokenState). IsAnswered c.args.place c.poll_once.result c.poll_once.new.self (thing_of t) replies.Ready) (sym c.of_holding.ensures)
+            (ready_answered c.args.place c.poll_once.result c.poll_once.new.self c.in-Ok-Ready.holding (c.in-Ok-Ready.is ∙ ap Ok (c.in-Ok-Ready.field-0-is ∙ ap polls.Ready c.in-Ok-Ready.holding-is)));
       };
     }
 
@@ -55,7 +59,9 @@ returns-in-Ok-Pending-clause-ok g c =
         set = refl;
         lawful = c.poll_once.ensures.steady;
         polled = subst (λ (r : RequestState). PollsAs r c.args.waker.0 sem c.poll_once.result c.poll_once.new.self c.poll_once.new.object) asked c.poll_once.ensures.polls;
-        answered = pending_answered c.args.place c.poll_once.result c.poll_once.new.self (c.in-Ok-Pending.is ∙ ap Ok c.in-Ok-Pending.field-0-is);
+        answered =
+            subst (λ (t : TokenState). IsAnswered c.args.place c.poll_once.result c.poll_once.new.self (thing_of t) replies.Pending) (sym c.of_request.ensures)
+            (pending_answered c.args.place c.poll_once.result c.poll_once.new.self (c.in-Ok-Pending.is ∙ ap Ok c.in-Ok-Pending.field-0-is));
       };
     }
 

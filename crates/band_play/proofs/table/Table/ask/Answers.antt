@@ -1,7 +1,8 @@
 use Rattle.std.proofs.Common.{refl, sym, ◌∙◌}
-use Rattle.band_play.proofs.TableLemmas.{ask_refuses, ask_takes, ask_done, updated_twice, none_from, some_there, same_names, stays, sound_same, polls_quiet, on_err}
+use Rattle.band_play.proofs.TableLemmas.{ask_refuses, ask_takes, ask_done, updated_twice, none_from, some_there, stays, sound_same, polls_quiet, on_err}
 use Rattle.band_play.proofs.Sound.{object_in, numbered_in, sound_after}
 use Rattle.band_play.proofs.Follow.{same_table, offered_at, offers_of}
+use Rattle.band_play.specs.Token.{thing_of}
 use Rattle.band_play.specs.Moves.{mode_of}
 use Rattle.band_play.proofs.table.Table.ask.Goals as goal
 
@@ -22,12 +23,12 @@ returns-then-is_live-clause-follows g c =
 
 pub returns-in_err-reserve-clause-err : goal.returns-in_err-reserve-clause-err
 returns-in_err-reserve-clause-err g c =
-    on_err c.from_residual.result _ (stays c.args.self.now (record { names = c.reserve.new.names; objects = c.args.self.now.objects; last = c.args.self.now.last })
-    (same_names c.args.self.now.names c.reserve.new.names c.in_err-reserve.ensures.err) refl refl)
+    on_err c.from_residual.result _ (stays c.args.self.now (record { names = c.reserve.new.self; objects = c.args.self.now.objects; last = c.args.self.now.last })
+    c.in_err-reserve.ensures.err refl refl)
 
 pub returns-in_err-reserve-clause-sound : goal.returns-in_err-reserve-clause-sound
 returns-in_err-reserve-clause-sound g c =
-    sound_same c.args.self.now _ c.requires.sound (same_names c.args.self.now.names c.reserve.new.names c.in_err-reserve.ensures.err) refl refl
+    sound_same c.args.self.now _ c.requires.sound c.in_err-reserve.ensures.err refl refl
 
 pub first_poll-requires-clause-there : goal.first_poll-requires-clause-there
 first_poll-requires-clause-there g c =
@@ -45,8 +46,8 @@ pub returns-in-Ok-first_poll-clause-follows : goal.returns-in-Ok-first_poll-clau
 returns-in-Ok-first_poll-clause-follows g c =
     let offered = offered_at (mode_of c.args.want) c.args.self.now.objects.items _ c.in-Ok.place (sym c.object_for.ensures ∙ c.in-Ok.is) in
     let sem = some_there c.args.self.now.objects.items c.in-Ok.place (object_in c.args.self.now c.args.of.now c.in-Ok.place c.requires.sound offered.0) in
-    ask_done c.args.self.now c.requires.sound c.requires.quiet (record { names = c.set.new.names; objects = c.first_poll.new.objects; last = c.in-Ok.place })
-    c.args.want c.args.made.now c.args.of.now c.args.waker.0 c.in-Ok.place sem.0 c.in-Ok-first_poll.thing c.in-Ok-first_poll.reply
+    ask_done c.args.self.now c.requires.sound c.requires.quiet (record { names = c.set.new.self; objects = c.first_poll.new.objects; last = c.in-Ok.place })
+    c.args.want c.args.made.now c.args.of.now c.args.waker.0 c.in-Ok.place sem.0 (thing_of c.in-Ok-first_poll.token) c.in-Ok-first_poll.reply
     offered.0 sem.1 (offers_of (mode_of c.args.want) c.args.self.now.objects.items c.in-Ok.place sem.0 sem.1 offered.1)
     (none_from _ c.is_live.result c.is_live.ensures.1 c.if-is_live.false)
     (updated_twice _ _ _ c.args.made.now _ _ c.in_ok-reserve.ensures.ok c.set.ensures)
@@ -55,17 +56,17 @@ returns-in-Ok-first_poll-clause-follows g c =
 pub returns-in-Ok-first_poll-clause-sound : goal.returns-in-Ok-first_poll-clause-sound
 returns-in-Ok-first_poll-clause-sound g c =
     sound_after _ c.args.self.now c.in-Ok-first_poll.reply _ c.requires.sound (returns-in-Ok-first_poll-clause-follows g c)
-    (polls_quiet c.args.self.now c.requires.sound c.requires.quiet (record { names = c.set.new.names; objects = c.first_poll.new.objects; last = c.in-Ok.place })
-    c.args.want c.in-Ok.place c.args.waker.0 c.in-Ok-first_poll.thing c.in-Ok-first_poll.reply c.in-Ok-first_poll.ensures.ok refl)
+    (polls_quiet c.args.self.now c.requires.sound c.requires.quiet (record { names = c.set.new.self; objects = c.first_poll.new.objects; last = c.in-Ok.place })
+    c.args.want c.in-Ok.place c.args.waker.0 (thing_of c.in-Ok-first_poll.token) c.in-Ok-first_poll.reply c.in-Ok-first_poll.ensures.ok refl)
 
 pub returns-in-Err-first_poll-clause-err : goal.returns-in-Err-first_poll-clause-err
 returns-in-Err-first_poll-clause-err g c =
-    stays c.args.self.now (record { names = c.forget.new.names; objects = c.first_poll.new.objects; last = c.args.self.now.last })
+    stays c.args.self.now (record { names = c.forget.new.self; objects = c.first_poll.new.objects; last = c.args.self.now.last })
     (same_table _ _ c.args.made.now _ (updated_twice _ _ _ c.args.made.now _ _ c.in_ok-reserve.ensures.ok c.forget.ensures) (none_from _ c.is_live.result c.is_live.ensures.1 c.if-is_live.false))
     c.in-Err-first_poll.ensures.err refl
 
 pub returns-in-Err-first_poll-clause-sound : goal.returns-in-Err-first_poll-clause-sound
 returns-in-Err-first_poll-clause-sound g c =
-    sound_same c.args.self.now (record { names = c.forget.new.names; objects = c.first_poll.new.objects; last = c.args.self.now.last }) c.requires.sound
+    sound_same c.args.self.now (record { names = c.forget.new.self; objects = c.first_poll.new.objects; last = c.args.self.now.last }) c.requires.sound
     (same_table _ _ c.args.made.now _ (updated_twice _ _ _ c.args.made.now _ _ c.in_ok-reserve.ensures.ok c.forget.ensures) (none_from _ c.is_live.result c.is_live.ensures.1 c.if-is_live.false))
     c.in-Err-first_poll.ensures.err refl

@@ -6,7 +6,7 @@ use Rattle.band_balance.specs.Line.{take_permits, is_served}
 use Rattle.band_play.specs.Objects.{IsSteady, ObjectState, HoldingState}
 use Rattle.band_sem.specs.declared.refusal.Refusal.TheVariants as refusals
 use Rattle.band_play.specs.declared.reply.Reply.TheVariants as replies
-use Rattle.band_play.specs.declared.thing.Thing.TheVariants as things
+use Rattle.band_play.specs.Thing as things
 use Rattle.band_play.specs.Names.{Updated, thing_at}
 use Rattle.band_play.specs.State.{standing}
 use Rattle.band_play.specs.Step.{trying}
@@ -15,7 +15,7 @@ use Rattle.band_play.proofs.Called.{refuses, shows, call_follows, call_sound, qu
 use Rattle.band_play.proofs.Calling.{try_taken, try_follows, try_fails}
 use Rattle.band_play.proofs.Follow.{calling_for_refused, offered_at, offers_of, want_fits}
 use Rattle.band_play.proofs.Sound.{object_in, numbered_in}
-use Rattle.band_play.proofs.TableLemmas.{some_of, some_there, none_from, updated_twice, same_names, stays, sound_same, on_err}
+use Rattle.band_play.proofs.TableLemmas.{set_holding, some_of, some_there, none_from, updated_twice, stays, sound_same, on_err}
 use Rattle.band_play.proofs.table.Table.try_for.Goals as goal
 
 pub object_for-requires : goal.object_for-requires
@@ -59,12 +59,12 @@ returns-then-not-would_serve-clause-follows c =
 
 pub returns-in_err-reserve-clause-err : goal.returns-in_err-reserve-clause-err
 returns-in_err-reserve-clause-err c =
-    on_err c.from_residual.result _ (stays c.args.self.now (record { names = c.reserve.new.names; objects = c.args.self.now.objects; last = c.args.self.now.last })
-    (same_names c.args.self.now.names c.reserve.new.names c.in_err-reserve.ensures.err) refl refl)
+    on_err c.from_residual.result _ (stays c.args.self.now (record { names = c.reserve.new.self; objects = c.args.self.now.objects; last = c.args.self.now.last })
+    c.in_err-reserve.ensures.err refl refl)
 
 pub returns-in_err-reserve-clause-sound : goal.returns-in_err-reserve-clause-sound
 returns-in_err-reserve-clause-sound c =
-    sound_same c.args.self.now _ c.requires.sound (same_names c.args.self.now.names c.reserve.new.names c.in_err-reserve.ensures.err) refl refl
+    sound_same c.args.self.now _ c.requires.sound c.in_err-reserve.ensures.err refl refl
 
 pub index_mut-object-requires : goal.index_mut-object-requires
 index_mut-object-requires c =
@@ -101,15 +101,15 @@ returns-clause-follows c =
     let served : is_served n sem.line ≡ true = c.try_take.ensures.served.0 (subst (λ (r : Option HoldingState). IsSome r) (sym taken) refl) in
     let number : sem.number ≡ c.in-Ok.place = numbered_in c.args.self.now c.in-Ok.place c.requires.sound sem there in
     call_follows c.args.self.now c.requires.sound c.requires.quiet (λ state. trying (mode_of c.args.want) (size_for c.args.want) (standing c.args.of.now state) c.args.made.now state) replies.Done
-    (record { names = c.set.new.names; objects = with_item c.args.self.now.objects c.in-Ok.place c.try_take.new.self; last = c.in-Ok.place })
+    (record { names = c.set.new.self; objects = with_item c.args.self.now.objects c.in-Ok.place c.try_take.new.self; last = c.in-Ok.place })
     c.in-Ok.place (record sem { line = take_permits n sem.line; held = sem.held + n })
     (ap (slice_set c.args.self.now.objects.items c.in-Ok.place) after) refl
     (λ names state stands. try_follows names _ _ state stands c.args.of.now c.in-Ok.place sem object there (quiet_there c.args.self.now c.requires.sound c.requires.quiet c.in-Ok.place sem there)
-    (mode_of c.args.want) (size_for c.args.want) c.args.made.now n refl offers (thing_at c.set.new.names) (want_fits sem.kind c.args.want offers)
+    (mode_of c.args.want) (size_for c.args.want) c.args.made.now n refl offers (thing_at c.set.new.self) (want_fits sem.kind c.args.want offers)
     (none_from _ c.is_live.result c.is_live.ensures.1 c.if-is_live.false) served
-    (subst (λ (p : HoldingState). Updated (thing_at c.args.self.now.names) (thing_at c.set.new.names) c.args.made.now (Some (things.Holding p)))
+    (subst (λ (p : HoldingState). Updated (thing_at c.args.self.now.names) (thing_at c.set.new.self) c.args.made.now (Some (things.Holding p)))
     (holding ∙ ap (λ (k : ℕ). record { mode = mode_of c.args.want; of = k; count = n }) number)
-    (updated_twice _ _ _ c.args.made.now _ _ c.in_ok-reserve.ensures.ok c.set.ensures))
+    (updated_twice _ _ _ c.args.made.now _ _ c.in_ok-reserve.ensures.ok (set_holding _ _ c.args.made.now _ _ c.of_holding.ensures c.set.ensures)))
     (subst (λ (s : ObjectState). IsSteady s) after c.try_take.ensures.steady))
 
 pub returns-clause-sound : goal.returns-clause-sound
@@ -129,13 +129,13 @@ returns-clause-sound c =
     let served : is_served n sem.line ≡ true = c.try_take.ensures.served.0 (subst (λ (r : Option HoldingState). IsSome r) (sym taken) refl) in
     let number : sem.number ≡ c.in-Ok.place = numbered_in c.args.self.now c.in-Ok.place c.requires.sound sem there in
     call_sound c.args.self.now c.requires.sound c.requires.quiet (λ state. trying (mode_of c.args.want) (size_for c.args.want) (standing c.args.of.now state) c.args.made.now state) replies.Done
-    (record { names = c.set.new.names; objects = with_item c.args.self.now.objects c.in-Ok.place c.try_take.new.self; last = c.in-Ok.place })
+    (record { names = c.set.new.self; objects = with_item c.args.self.now.objects c.in-Ok.place c.try_take.new.self; last = c.in-Ok.place })
     c.in-Ok.place (record sem { line = take_permits n sem.line; held = sem.held + n })
     (ap (slice_set c.args.self.now.objects.items c.in-Ok.place) after) refl
     (λ names state stands. try_follows names _ _ state stands c.args.of.now c.in-Ok.place sem object there (quiet_there c.args.self.now c.requires.sound c.requires.quiet c.in-Ok.place sem there)
-    (mode_of c.args.want) (size_for c.args.want) c.args.made.now n refl offers (thing_at c.set.new.names) (want_fits sem.kind c.args.want offers)
+    (mode_of c.args.want) (size_for c.args.want) c.args.made.now n refl offers (thing_at c.set.new.self) (want_fits sem.kind c.args.want offers)
     (none_from _ c.is_live.result c.is_live.ensures.1 c.if-is_live.false) served
-    (subst (λ (p : HoldingState). Updated (thing_at c.args.self.now.names) (thing_at c.set.new.names) c.args.made.now (Some (things.Holding p)))
+    (subst (λ (p : HoldingState). Updated (thing_at c.args.self.now.names) (thing_at c.set.new.self) c.args.made.now (Some (things.Holding p)))
     (holding ∙ ap (λ (k : ℕ). record { mode = mode_of c.args.want; of = k; count = n }) number)
-    (updated_twice _ _ _ c.args.made.now _ _ c.in_ok-reserve.ensures.ok c.set.ensures))
+    (updated_twice _ _ _ c.args.made.now _ _ c.in_ok-reserve.ensures.ok (set_holding _ _ c.args.made.now _ _ c.of_holding.ensures c.set.ensures)))
     (subst (λ (s : ObjectState). IsSteady s) after c.try_take.ensures.steady))

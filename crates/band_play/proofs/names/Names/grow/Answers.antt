@@ -1,0 +1,32 @@
+use Rattle.std.proofs.Common.{◌≡◌, ◌+◌, Some, ap, ◌∙◌, subst, rules}
+use Rattle.std.specs.BTreeMap.{Updates}
+use Rattle.std.specs.Ordering.{nat_cmp}
+use Rattle.std.specs.Cmp.Lexicographic.{slice_cmp}
+use Rattle.band_balance.specs.Object.{Permit}
+use Rattle.band_play.specs.Apart.{at}
+use Rattle.band_play.specs.Token.{TokenState, Holding}
+use Rattle.band_play.specs.Moves.{held_as}
+use Rattle.band_play.proofs.Updates.{no_object, token_there, token_changed, tokens_apart}
+use Rattle.band_play.proofs.names.Names.grow.Goals as goal
+
+pub invariant_of-self : goal.invariant_of-self
+invariant_of-self c =
+    let was : at c.args.self.now.tokens c.args.name.now ≡ Some c.replace.result = search rules in
+    record {
+      apart =
+          tokens_apart c.args.self.now c.args.name.now (c.get_mut.follows.lender c.replace-2.new.dest) (Some c.replace-2.new.dest) (no_object c.args.self.now c.args.name.now c.replace.result was)
+          ((c.get_mut.follows.holds c.replace-2.new.dest).3 (search rules));
+    }
+
+pub returns : goal.returns
+returns c =
+    let was : at c.args.self.now.tokens c.args.name.now ≡ Some c.replace.result = search rules in
+    let left : c.replace-2.new.dest ≡ Holding (record c.into_permit-permit.result { count = c.into_permit-permit.result.count + c.args.more.count }) = c.replace-2.ensures.after ∙ c.of_holding.ensures ∙ ap Holding c.join.ensures in
+    record {
+      whole = c.into_permit-permit.result;
+      was = ap (held_as Permit) (token_there c.args.self.now c.args.name.now c.replace.result was) ∙ c.into_permit-permit.ensures;
+      updated =
+          token_changed c.args.self.now c.args.name.now (c.get_mut.follows.lender c.replace-2.new.dest) _ (no_object c.args.self.now c.args.name.now c.replace.result was)
+          (subst (λ (t : TokenState). Updates (slice_cmp nat_cmp) c.args.self.now.tokens (c.get_mut.follows.lender c.replace-2.new.dest) c.args.name.now (Some t)) left
+          ((c.get_mut.follows.holds c.replace-2.new.dest).3 (search rules)));
+    }

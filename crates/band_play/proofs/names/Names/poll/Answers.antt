@@ -1,0 +1,51 @@
+use Rattle.std.proofs.Common.{◌≡◌, Some, refl, subst, rules}
+use Rattle.std.specs.BTreeMap.{Updates}
+use Rattle.std.specs.Ordering.{nat_cmp}
+use Rattle.std.specs.Cmp.Lexicographic.{slice_cmp}
+use Rattle.band_play.specs.Apart.{at}
+use Rattle.band_play.specs.Thing as things
+use Rattle.band_play.specs.Token.{thing_of}
+use Rattle.band_play.proofs.Updates.{no_object, token_there, token_changed, tokens_apart, tokens_kept, object_there}
+use Rattle.band_play.proofs.names.Names.poll.Goals as goal
+
+pub poll-token-requires : goal.poll-token-requires
+poll-token-requires g c =
+    let was : at c.args.self.now.tokens c.args.name.now ≡ Some c.replace-token.result = search rules in
+    c.requires (thing_of c.replace-token.result) (token_there c.args.self.now c.args.name.now c.replace-token.result was)
+
+pub invariant_of-self : goal.invariant_of-self
+invariant_of-self g c =
+    let was : at c.args.self.now.tokens c.args.name.now ≡ Some c.replace-token.result = search rules in
+    record {
+      apart =
+          tokens_apart c.args.self.now c.args.name.now (c.get_mut.follows.lender c.replace.new.dest) (Some c.replace.new.dest) (no_object c.args.self.now c.args.name.now c.replace-token.result was)
+          ((c.get_mut.follows.holds c.replace.new.dest).3 (search rules));
+    }
+
+pub returns-in-Some-clause-some : goal.returns-in-Some-clause-some
+returns-in-Some-clause-some g c =
+    let was : at c.args.self.now.tokens c.args.name.now ≡ Some c.replace-token.result = search rules in
+    record {
+      found = thing_of c.replace-token.result;
+      left = thing_of c.poll-token.result.0;
+      was = token_there c.args.self.now c.args.name.now c.replace-token.result was;
+      at = c.place-place.ensures;
+      polled = c.poll-token.ensures;
+      updated =
+          token_changed c.args.self.now c.args.name.now (c.get_mut.follows.lender c.replace.new.dest) (Some c.poll-token.result.0) (no_object c.args.self.now c.args.name.now c.replace-token.result was)
+          (subst (λ w. Updates (slice_cmp nat_cmp) c.args.self.now.tokens (c.get_mut.follows.lender c.replace.new.dest) c.args.name.now (Some w)) c.replace.ensures.after
+          ((c.get_mut.follows.holds c.replace.new.dest).3 (search rules)));
+    }
+
+pub returns-in_ok-place-in-None-clause-some : goal.returns-in_ok-place-in-None-clause-some
+returns-in_ok-place-in-None-clause-some g c =
+    let there : at c.args.self.now.objects c.args.name.now ≡ Some c.in_ok-place-in-None.place.now = search rules in
+    let found = object_there c.args.self.now c.args.name.now c.in_ok-place-in-None.place.now there in
+    record {
+      found = things.Object c.in_ok-place-in-None.place.now;
+      left = things.Object c.in_ok-place-in-None.place.now;
+      was = found;
+      at = refl;
+      polled = (refl, refl, refl);
+      updated = tokens_kept c.args.self.now c.args.name.now c.get_mut.follows.lender-at-none _ found (search rules);
+    }

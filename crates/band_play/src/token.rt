@@ -1,0 +1,241 @@
+//! Requests and holdings, as the table of names stores them.
+ghost use Rattle.std.specs.Prelude.{◌≡◌, IsOk, Some, Ok, MatchResult, Err};
+ghost use Rattle.band_balance.specs.Object.{Permit, Write};
+ghost use Rattle.band_play.specs.Objects.{request_of, holding_of};
+ghost use Rattle.band_play.specs.Token as tokens;
+ghost use Rattle.band_play.specs.Token.{ended, opened_of, thing_of};
+
+use crate::Reply;
+use crate::holding::{AnyHolding, Holding};
+use crate::object::Object;
+use crate::request::{AnyRequest, Request};
+use band_base::{Poll, Steps, Waker};
+use band_lock::{LockGuard, LockRequest, ReadAccess, ReadRequest, WriteAccess, WriteRequest};
+use band_sem::{Acquire, Refusal, SemaphorePermit};
+use std::marker::Model;
+use std::sync::ledger::Ledger;
+
+/// What a token is. A request has the place of its object before it.
+enum AnyToken {
+    /// A request that has ended, in the place of a token that is elsewhere.
+    Ended,
+    SemaphorePermit(SemaphorePermit),
+    LockGuard(LockGuard),
+    ReadAccess(ReadAccess),
+    WriteAccess(WriteAccess),
+    Acquire(u64, Acquire),
+    LockRequest(u64, LockRequest),
+    ReadRequest(u64, ReadRequest),
+    WriteRequest(u64, WriteRequest),
+}
+
+/// A token outside the table, for a call.
+enum Opened {
+    Ended,
+    Request { of: u64, request: Request },
+    Holding(Holding),
+}
+
+/// What a live name is that is no object. It has one tag, where a `Request` and a `Holding` would add one each.
+pub(crate) struct Token {
+    any: AnyToken,
+}
+
+impl Model for Token {
+    ghost use Rattle.band_play.specs.Token.{TokenState, token_of};
+
+    ghost Value = { TokenState };
+
+    ghost view = { λ t. token_of t.any };
+}
+
+fn opened_request(of: u64, any: AnyRequest) -> Opened
+    ensures { opened_of result ≡ tokens.Request of (request_of any) }
+{
+    let request = Request { any };
+    Opened::Request { of, request }
+}
+
+fn opened_holding(any: AnyHolding) -> Opened
+    ensures { opened_of result ≡ tokens.Holding (holding_of any) }
+{
+    let holding = Holding { any };
+    Opened::Holding(holding)
+}
+
+impl Token {
+    ghost use Rattle.band_play.specs.Moves.{IsFit, PollsThing, DropsThing, place_at, held_as, HeldAt};
+
+    /// A request that has ended.
+    pub(crate) fn ended() -> Token
+        ensures { result ≡ ended }
+    {
+        let any = AnyToken::Ended;
+        Token { any }
+    }
+
+    /// A request that is in the line of the object at a place.
+    pub(crate) fn of_request(of: u64, request: Request) -> Token
+        ensures { result ≡ tokens.Request of request }
+    {
+        let Request { any } = request;
+        let any = match any {
+            AnyRequest::Permit(request) => AnyToken::Acquire(of, request),
+            AnyRequest::Lock(request) => AnyToken::LockRequest(of, request),
+            AnyRequest::Read(request) => AnyToken::ReadRequest(of, request),
+            AnyRequest::Write(request) => AnyToken::WriteRequest(of, request),
+        };
+        Token { any }
+    }
+
+    /// A permit or a guard.
+    pub(crate) fn of_holding(holding: Holding) -> Token
+        ensures { result ≡ tokens.Holding holding }
+    {
+        let Holding { any } = holding;
+        let any = match any {
+            AnyHolding::Permit(permit) => AnyToken::SemaphorePermit(permit),
+            AnyHolding::Lock(guard) => AnyToken::LockGuard(guard),
+            AnyHolding::Read(access) => AnyToken::ReadAccess(access),
+            AnyHolding::Write(access) => AnyToken::WriteAccess(access),
+        };
+        Token { any }
+    }
+
+    /// Takes it out of its one tag.
+    fn open(self) -> Opened
+        ensures { opened_of result ≡ self }
+    {
+        let Token { any } = self;
+        match any {
+            AnyToken::Ended => Opened::Ended,
+            AnyToken::SemaphorePermit(permit) => opened_holding(AnyHolding::Permit(permit)),
+            AnyToken::LockGuard(guard) => opened_holding(AnyHolding::Lock(guard)),
+            AnyToken::ReadAccess(access) => opened_holding(AnyHolding::Read(access)),
+            AnyToken::WriteAccess(access) => opened_holding(AnyHolding::Write(access)),
+            AnyToken::Acquire(of, request) => opened_request(of, AnyRequest::Permit(request)),
+            AnyToken::LockRequest(of, request) => opened_request(of, AnyRequest::Lock(request)),
+            AnyToken::ReadRequest(of, request) => opened_request(of, AnyRequest::Read(request)),
+            AnyToken::WriteRequest(of, request) => opened_request(of, AnyRequest::Write(request)),
+        }
+    }
+
+    /// Polls the request that this is. Nothing else can be polled.
+    pub(crate) fn poll<L: Ledger>(
+        self,
+        objects: &mut Vec<Object>,
+        waker: Waker,
+        steps: &mut Steps<L>,
+    ) -> (Token, Reply)
+        requires { IsFit objects.old.items (thing_of self) }
+        ensures { PollsThing (thing_of self) waker.0 objects.old.items (thing_of result.0) result.1 objects.new.items }
+    {
+        match self.open() {
+            Opened::Ended => unreachable!(),
+            Opened::Holding(holding) => {
+                let token = Token::of_holding(holding);
+                (token, Reply::Refused(Refusal::Finished))
+            }
+            Opened::Request { of, mut request } => {
+                let object = &mut objects[of as usize];
+                match request.poll_once(object, waker, steps) {
+                    Ok(Poll::Ready(holding)) => {
+                        request.lose();
+                        (Token::of_holding(holding), Reply::Ready)
+                    }
+                    Ok(Poll::Pending) => (Token::of_request(of, request), Reply::Pending),
+                    Err(_) => unreachable!(),
+                }
+            }
+        }
+    }
+
+    /// Lets go of the request or holding that this is.
+    pub(crate) fn drop_from<L: Ledger>(self, objects: &mut Vec<Object>, steps: &mut Steps<L>)
+        requires { IsFit objects.old.items (thing_of self) }
+        ensures { DropsThing (thing_of self) objects.old.items objects.new.items }
+    {
+        match self.open() {
+            Opened::Ended => unreachable!(),
+            Opened::Holding(holding) => {
+                let of = holding.of();
+                holding.drop_to(&mut objects[of as usize], steps);
+            }
+            Opened::Request { of, request } => {
+                request.cancel(&mut objects[of as usize], steps);
+            }
+        }
+    }
+
+    /// The place of the object that this is of.
+    pub(crate) fn place(&self) -> u64
+        ensures { result ≡ place_at (thing_of self.now) }
+    {
+        match &self.any {
+            AnyToken::Ended => 0,
+            AnyToken::SemaphorePermit(permit) => permit.of(),
+            AnyToken::LockGuard(guard) => guard.of(),
+            AnyToken::ReadAccess(access) => access.of(),
+            AnyToken::WriteAccess(access) => access.of(),
+            AnyToken::Acquire(of, _)
+            | AnyToken::LockRequest(of, _)
+            | AnyToken::ReadRequest(of, _)
+            | AnyToken::WriteRequest(of, _) => *of,
+        }
+    }
+
+    /// The place of the object that this is a permit of.
+    pub(crate) fn permit_of(&self) -> Result<u64, Refusal>
+        ensures { MatchResult result
+            (λ place. HeldAt Permit (Some (thing_of self.now)) place)
+            (λ refusal. held_as Permit (Some (thing_of self.now)) ≡ Err refusal) }
+    {
+        match &self.any {
+            AnyToken::SemaphorePermit(permit) => Ok(permit.of()),
+            _ => Err(Refusal::Kind),
+        }
+    }
+
+    /// The permit of a semaphore that this is.
+    pub(crate) fn into_permit(self) -> Holding
+        requires { IsOk (held_as Permit (Some (thing_of self))) }
+        ensures { held_as Permit (Some (thing_of self)) ≡ Ok result }
+    {
+        match self.open() {
+            Opened::Holding(holding) => holding,
+            _ => unreachable!(),
+        }
+    }
+
+    /// The place of the object that this is the right to write of.
+    pub(crate) fn writer_of(&self) -> Result<u64, Refusal>
+        ensures { MatchResult result
+            (λ place. HeldAt Write (Some (thing_of self.now)) place)
+            (λ refusal. held_as Write (Some (thing_of self.now)) ≡ Err refusal) }
+    {
+        match &self.any {
+            AnyToken::WriteAccess(access) => Ok(access.of()),
+            _ => Err(Refusal::Kind),
+        }
+    }
+
+    /// The right to write that this is.
+    pub(crate) fn into_writer(self) -> Holding
+        requires { IsOk (held_as Write (Some (thing_of self))) }
+        ensures { held_as Write (Some (thing_of self)) ≡ Ok result }
+    {
+        match self.open() {
+            Opened::Holding(holding) => holding,
+            _ => unreachable!(),
+        }
+    }
+
+    /// Ends what this is and leaves it counted, for a table that ends too.
+    pub(crate) fn lose(self) {
+        match self.open() {
+            Opened::Ended => {}
+            Opened::Holding(holding) => holding.lose(),
+            Opened::Request { of: _, request } => request.lose(),
+        }
+    }
+}
