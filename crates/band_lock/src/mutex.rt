@@ -129,6 +129,13 @@ impl MutexState {
 }
 
 impl LockRequest {
+    /// The number of its mutex (own).
+    pub fn of(&self) -> u64
+        ensures { result ≡ self.now.of }
+    {
+        self.request.of()
+    }
+
     /// Asks for the mutex: the first time it may join the line, and later it asks whether it was granted.
     pub fn poll_once<L: Ledger>(
         &mut self,

@@ -233,6 +233,13 @@ impl RwLockState {
 }
 
 impl ReadRequest {
+    /// The number of its lock (own).
+    pub fn of(&self) -> u64
+        ensures { result ≡ self.now.of }
+    {
+        self.request.of()
+    }
+
     /// Asks for the right to read: the first time it may join the line, and later it asks whether it was granted.
     pub fn poll_once<L: Ledger>(
         &mut self,
@@ -277,6 +284,13 @@ impl ReadRequest {
 }
 
 impl WriteRequest {
+    /// The number of its lock (own).
+    pub fn of(&self) -> u64
+        ensures { result ≡ self.now.of }
+    {
+        self.request.of()
+    }
+
     /// Asks for the right to write: the first time it may join the line, and later it asks whether it was granted.
     pub fn poll_once<L: Ledger>(
         &mut self,

@@ -18,7 +18,8 @@ use Rattle.band_sem.specs.Request.{Request as Asked}
 use Rattle.band_sem.specs.Permit.{Permit as Held}
 use Rattle.band_sem.specs.declared.refusal.Refusal.{Refusal}
 use Rattle.band_sem.specs.declared.refusal.Refusal.TheVariants as refusals
-use Rattle.band_sem.specs.declared.acquire.Stage.TheVariants.{NotPolled, Joined}
+use Rattle.band_sem.specs.declared.acquire.Stage.{Stage}
+use Rattle.band_sem.specs.declared.acquire.Stage.TheVariants.{NotPolled, Joined, Finished}
 use Rattle.band_play.specs.declared.reply.Reply.{Reply}
 use Rattle.band_play.specs.declared.reply.Reply.TheVariants as replies
 use Rattle.band_play.specs.Thing.{Thing}
@@ -27,7 +28,7 @@ use Rattle.band_play.specs.Names.{Updated}
 use Rattle.band_play.specs.State.{State, Named, Tag, is_tag, tag, standing}
 use Rattle.band_play.specs.Step.{Outcome, reply_of, refused, after_turn, turn_of, turn_at, unless_taken, is_of, on_kind, with_object, on_object, calling, calling_for, asking, polling, dropping}
 use Rattle.band_play.specs.Table.{StandsUnder, Stands, IsKnown}
-use Rattle.band_play.specs.Moves.{PollsAs, PollsRequest, PollsThing, AsksFirst, Becomes, IsAnswered, GivesIn, permit_answer, object_of, offers_at, offering, kind_at, given_back, cancelled_at, place_at, mode_of, size_for}
+use Rattle.band_play.specs.Moves.{FitsRequest, PollsAs, PollsRequest, PollsThing, AsksFirst, Becomes, IsAnswered, GivesIn, permit_answer, object_of, offers_at, offering, kind_at, given_back, cancelled_at, place_at, mode_of, size_for}
 use Rattle.band_play.specs.declared.object.Want.{Want}
 use Rattle.band_play.specs.declared.object.Want.TheVariants as wants
 use Rattle.band_play.specs.Kept.{wakes_of, OthersQuiet}
@@ -137,6 +138,30 @@ unmoved request waker old (Err e) left new error stage is polled =
     same errors.CountFull polled = absurd polled
     same errors.Unknown polled = absurd polled
     same errors.Driven polled = absurd polled
+
+-- a request that fits has an object
+pub there_of : (o : Option ObjectState) (request : RequestState) → FitsRequest o request → (sem : ObjectState) × (o ≡ Some sem)
+there_of None request fit = absurd fit
+there_of (Some sem) request fit = (sem, refl)
+
+-- a poll leaves the number of a request
+pub polled_of : (request : RequestState) (waker : ℕ) (old : ObjectState) (result : Result (Poll HoldingState) PollError) (left : RequestState) (new : ObjectState)
+    → PollsAs request waker old result left new → left.of ≡ request.of
+polled_of request waker old result left new is =
+    same (asked_of request) (asked_of left) (shares_of old) (shares_of new) request.stage (permit_answer result) is.polled
+  where
+    same : (request left : Asked) (old new : SemaphoreState) (stage : Stage) (result : Result (Poll Held) PollError) → PollsAt stage request waker old result left new → left.of ≡ request.of
+    same request left old new NotPolled (Ok (polls.Ready permit)) (served, permit_is, new_is, left_is) = ap (λ (r : Asked). r.of) left_is
+    same request left old new NotPolled (Ok polls.Pending) (waits, (slot, fresh, new_is, left_is)) = ap (λ (r : Asked). r.of) left_is
+    same request left old new NotPolled (Err errors.NoMemory) (waits, new_is, left_is) = ap (λ (r : Asked). r.of) left_is
+    same request left old new NotPolled (Err errors.Finished) polled = absurd polled
+    same request left old new NotPolled (Err errors.CountFull) polled = absurd polled
+    same request left old new NotPolled (Err errors.Unknown) polled = absurd polled
+    same request left old new NotPolled (Err errors.Driven) polled = absurd polled
+    same request left old new (Joined slot) (Ok (polls.Ready permit)) (there, permit_is, new_is, left_is) = ap (λ (r : Asked). r.of) left_is
+    same request left old new (Joined slot) (Ok polls.Pending) (none, new_is, left_is) = ap (λ (r : Asked). r.of) left_is
+    same request left old new (Joined slot) (Err error) polled = absurd polled
+    same request left old new Finished result (refused, new_is, left_is) = ap (λ (r : Asked). r.of) left_is
 
 called_with : (o : Option Thing) (refusal : Refusal) (call : ℕ → Outcome) (state : State) → object_of o ≡ Err refusal → calling (standing_of o) call state ≡ refused refusal state
 called_with None refusal call state e = let same : refusals.Unknown ≡ refusal = cc in ap (λ r. refused r state) same

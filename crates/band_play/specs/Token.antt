@@ -1,5 +1,4 @@
 -- What a token stands for.
-use Rattle.std.specs.Prelude.{ℕ}
 use Rattle.band_balance.specs.Object.{Permit, Lock, Read, Write}
 use Rattle.band_sem.specs.declared.acquire.Stage.TheVariants.{Finished}
 use Rattle.band_play.specs.Objects.{RequestState, HoldingState, in_mode, held_in}
@@ -10,14 +9,14 @@ use Rattle.band_play.specs.declared.token.AnyToken.TheVariants as tokens
 use Rattle.band_play.specs.declared.token.Opened.{Opened}
 use Rattle.band_play.specs.declared.token.Opened.TheVariants as openings
 
--- a request of the object at this place, or what is held of an object
+-- a request, or what is held of an object
 pub data TokenState : Type 0 where
-  Request : (place : ℕ) (request : RequestState) → TokenState
+  Request : (request : RequestState) → TokenState
   Holding : (holding : HoldingState) → TokenState
 
 -- a request that has ended
 abbrev pub ended : TokenState
-ended = Request 0 (record { mode = Permit; of = 0; size = 0; stage = Finished })
+ended = Request (record { mode = Permit; of = 0; size = 0; stage = Finished })
 
 abbrev pub token_of : AnyToken → TokenState
 token_of tokens.Ended = ended
@@ -25,17 +24,17 @@ token_of (tokens.SemaphorePermit permit) = Holding (held_in Permit permit)
 token_of (tokens.LockGuard guard) = Holding (held_in Lock guard)
 token_of (tokens.ReadAccess access) = Holding (held_in Read access)
 token_of (tokens.WriteAccess access) = Holding (held_in Write access)
-token_of (tokens.Acquire place request) = Request place (in_mode Permit request)
-token_of (tokens.LockRequest place request) = Request place (in_mode Lock request)
-token_of (tokens.ReadRequest place request) = Request place (in_mode Read request)
-token_of (tokens.WriteRequest place request) = Request place (in_mode Write request)
+token_of (tokens.Acquire request) = Request (in_mode Permit request)
+token_of (tokens.LockRequest request) = Request (in_mode Lock request)
+token_of (tokens.ReadRequest request) = Request (in_mode Read request)
+token_of (tokens.WriteRequest request) = Request (in_mode Write request)
 
 abbrev pub opened_of : Opened → TokenState
 opened_of openings.Ended = ended
-opened_of (openings.Request place request) = Request place request
+opened_of (openings.Request request) = Request request
 opened_of (openings.Holding holding) = Holding holding
 
 -- what a name with this token is
 abbrev pub thing_of : TokenState → Thing
-thing_of (Request place request) = things.Request place request
+thing_of (Request request) = things.Request request.of request
 thing_of (Holding holding) = things.Holding holding

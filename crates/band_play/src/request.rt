@@ -35,6 +35,18 @@ impl Request {
     ghost use Rattle.band_play.specs.Objects.{shares_of, asked_of, IsSteady, Fits};
     ghost use Rattle.band_play.specs.Moves.{PollsAs};
 
+    /// The number of its object.
+    pub(crate) fn of(&self) -> u64
+        ensures { result ≡ self.now.of }
+    {
+        match &self.any {
+            AnyRequest::Permit(request) => request.of(),
+            AnyRequest::Lock(request) => request.of(),
+            AnyRequest::Read(request) => request.of(),
+            AnyRequest::Write(request) => request.of(),
+        }
+    }
+
     /// Polls it.
     pub(crate) fn poll_once<L: Ledger>(
         &mut self,

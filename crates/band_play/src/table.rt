@@ -70,7 +70,7 @@ fn first_poll<L: Ledger>(
             request.lose();
             Ok((Token::of_holding(holding), Reply::Ready))
         }
-        Ok(Poll::Pending) => Ok((Token::of_request(place, request), Reply::Pending)),
+        Ok(Poll::Pending) => Ok((Token::of_request(request), Reply::Pending)),
         Err(_) => {
             request.lose();
             Err(AllocError)

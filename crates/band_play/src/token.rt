@@ -15,7 +15,7 @@ use band_sem::{Acquire, Refusal, SemaphorePermit};
 use std::marker::Model;
 use std::sync::ledger::Ledger;
 
-/// What a token is. A request has the place of its object before it.
+/// What a token is.
 enum AnyToken {
     /// A request that has ended, in the place of a token that is elsewhere.
     Ended,
@@ -23,16 +23,16 @@ enum AnyToken {
     LockGuard(LockGuard),
     ReadAccess(ReadAccess),
     WriteAccess(WriteAccess),
-    Acquire(u64, Acquire),
-    LockRequest(u64, LockRequest),
-    ReadRequest(u64, ReadRequest),
-    WriteRequest(u64, WriteRequest),
+    Acquire(Acquire),
+    LockRequest(LockRequest),
+    ReadRequest(ReadRequest),
+    WriteRequest(WriteRequest),
 }
 
 /// A token outside the table, for a call.
 enum Opened {
     Ended,
-    Request { of: u64, request: Request },
+    Request(Request),
     Holding(Holding),
 }
 
@@ -49,11 +49,11 @@ impl Model for Token {
     ghost view = { λ t. token_of t.any };
 }
 
-fn opened_request(of: u64, any: AnyRequest) -> Opened
-    ensures { opened_of result ≡ tokens.Request of (request_of any) }
+fn opened_request(any: AnyRequest) -> Opened
+    ensures { opened_of result ≡ tokens.Request (request_of any) }
 {
     let request = Request { any };
-    Opened::Request { of, request }
+    Opened::Request(request)
 }
 
 fn opened_holding(any: AnyHolding) -> Opened
@@ -74,16 +74,16 @@ impl Token {
         Token { any }
     }
 
-    /// A request that is in the line of the object at a place.
-    pub(crate) fn of_request(of: u64, request: Request) -> Token
-        ensures { result ≡ tokens.Request of request }
+    /// A request.
+    pub(crate) fn of_request(request: Request) -> Token
+        ensures { result ≡ tokens.Request request }
     {
         let Request { any } = request;
         let any = match any {
-            AnyRequest::Permit(request) => AnyToken::Acquire(of, request),
-            AnyRequest::Lock(request) => AnyToken::LockRequest(of, request),
-            AnyRequest::Read(request) => AnyToken::ReadRequest(of, request),
-            AnyRequest::Write(request) => AnyToken::WriteRequest(of, request),
+            AnyRequest::Permit(request) => AnyToken::Acquire(request),
+            AnyRequest::Lock(request) => AnyToken::LockRequest(request),
+            AnyRequest::Read(request) => AnyToken::ReadRequest(request),
+            AnyRequest::Write(request) => AnyToken::WriteRequest(request),
         };
         Token { any }
     }
@@ -113,10 +113,10 @@ impl Token {
             AnyToken::LockGuard(guard) => opened_holding(AnyHolding::Lock(guard)),
             AnyToken::ReadAccess(access) => opened_holding(AnyHolding::Read(access)),
             AnyToken::WriteAccess(access) => opened_holding(AnyHolding::Write(access)),
-            AnyToken::Acquire(of, request) => opened_request(of, AnyRequest::Permit(request)),
-            AnyToken::LockRequest(of, request) => opened_request(of, AnyRequest::Lock(request)),
-            AnyToken::ReadRequest(of, request) => opened_request(of, AnyRequest::Read(request)),
-            AnyToken::WriteRequest(of, request) => opened_request(of, AnyRequest::Write(request)),
+            AnyToken::Acquire(request) => opened_request(AnyRequest::Permit(request)),
+            AnyToken::LockRequest(request) => opened_request(AnyRequest::Lock(request)),
+            AnyToken::ReadRequest(request) => opened_request(AnyRequest::Read(request)),
+            AnyToken::WriteRequest(request) => opened_request(AnyRequest::Write(request)),
         }
     }
 
@@ -136,14 +136,15 @@ impl Token {
                 let token = Token::of_holding(holding);
                 (token, Reply::Refused(Refusal::Finished))
             }
-            Opened::Request { of, mut request } => {
-                let object = &mut objects[of as usize];
+            Opened::Request(mut request) => {
+                let place = request.of();
+                let object = &mut objects[place as usize];
                 match request.poll_once(object, waker, steps) {
                     Ok(Poll::Ready(holding)) => {
                         request.lose();
                         (Token::of_holding(holding), Reply::Ready)
                     }
-                    Ok(Poll::Pending) => (Token::of_request(of, request), Reply::Pending),
+                    Ok(Poll::Pending) => (Token::of_request(request), Reply::Pending),
                     Err(_) => unreachable!(),
                 }
             }
@@ -161,8 +162,9 @@ impl Token {
                 let of = holding.of();
                 holding.drop_to(&mut objects[of as usize], steps);
             }
-            Opened::Request { of, request } => {
-                request.cancel(&mut objects[of as usize], steps);
+            Opened::Request(request) => {
+                let place = request.of();
+                request.cancel(&mut objects[place as usize], steps);
             }
         }
     }
@@ -177,10 +179,10 @@ impl Token {
             AnyToken::LockGuard(guard) => guard.of(),
             AnyToken::ReadAccess(access) => access.of(),
             AnyToken::WriteAccess(access) => access.of(),
-            AnyToken::Acquire(of, _)
-            | AnyToken::LockRequest(of, _)
-            | AnyToken::ReadRequest(of, _)
-            | AnyToken::WriteRequest(of, _) => *of,
+            AnyToken::Acquire(request) => request.of(),
+            AnyToken::LockRequest(request) => request.of(),
+            AnyToken::ReadRequest(request) => request.of(),
+            AnyToken::WriteRequest(request) => request.of(),
         }
     }
 
@@ -235,7 +237,7 @@ impl Token {
         match self.open() {
             Opened::Ended => {}
             Opened::Holding(holding) => holding.lose(),
-            Opened::Request { of: _, request } => request.lose(),
+            Opened::Request(request) => request.lose(),
         }
     }
 }

@@ -47,6 +47,13 @@ impl Acquire {
         }
     }
 
+    /// The number of its semaphore (own).
+    pub fn of(&self) -> u64
+        ensures { result ≡ self.now.of }
+    {
+        self.of
+    }
+
     /// How many permits it asks for (own).
     pub fn requested(&self) -> u64
         ensures { result ≡ self.now.size }

@@ -1,14 +1,15 @@
-use Rattle.std.proofs.Common.{◌≡◌, Some, Ok, ap, refl, sym, ◌∙◌, subst}
+use Rattle.std.proofs.Common.{◌≡◌, ℕ, Some, Ok, ap, refl, sym, ◌∙◌, subst}
 use Rattle.std.specs.List.{slice_get, slice_set}
 use Rattle.std.proofs.lemmas.Option.{slice_get_read}
 use Rattle.band_base.specs.declared.poll.Poll.TheVariants as polls
 use Rattle.band_sem.specs.declared.acquire.Stage.TheVariants.{NotPolled}
 use Rattle.band_play.specs.Objects.{RequestState, Fits}
 use Rattle.band_play.specs.declared.reply.Reply.TheVariants as replies
+use Rattle.band_play.specs.Thing as things
 use Rattle.band_play.specs.Token.{TokenState, thing_of}
 use Rattle.band_play.specs.Moves.{PollsAs, IsAnswered, kind_at, mode_of, size_for}
 use Rattle.band_play.proofs.Called.{set_itself}
-use Rattle.band_play.proofs.Follow.{want_fits, unmoved, ready_answered, pending_answered}
+use Rattle.band_play.proofs.Follow.{want_fits, unmoved, polled_of, ready_answered, pending_answered}
 use Rattle.band_play.proofs.table.first_poll.Goals as goal
 
 pub poll_once-requires-clause-fits : goal.poll_once-requires-clause-fits
@@ -47,6 +48,8 @@ returns-in-Ok-Pending-clause-ok g c =
     let there : slice_get c.args.objects.now.items c.args.place ≡ Some sem = slice_get_read c.args.objects.now.items _ c.args.place sem refl c.requires.there c.index_mut-object.ensures.value in
     let first : RequestState = record { mode = mode_of c.args.want; of = c.args.place; size = size_for c.args.want sem.kind; stage = NotPolled } in
     let asked : c.request-request.result ≡ first = c.request-request.ensures ∙ ap (λ k. record first { of = k }) (c.requires.offered sem there).0 in
+    let polled = subst (λ (r : RequestState). PollsAs r c.args.waker.0 sem c.poll_once.result c.poll_once.new.self c.poll_once.new.object) asked c.poll_once.ensures.polls in
+    let here : c.poll_once.new.self.of ≡ c.args.place = polled_of first c.args.waker.0 sem c.poll_once.result c.poll_once.new.self c.poll_once.new.object polled in
     record {
       kind = sem.kind;
       there = ap kind_at there;
@@ -58,10 +61,11 @@ returns-in-Ok-Pending-clause-ok g c =
         there = there;
         set = refl;
         lawful = c.poll_once.ensures.steady;
-        polled = subst (λ (r : RequestState). PollsAs r c.args.waker.0 sem c.poll_once.result c.poll_once.new.self c.poll_once.new.object) asked c.poll_once.ensures.polls;
+        polled = polled;
         answered =
             subst (λ (t : TokenState). IsAnswered c.args.place c.poll_once.result c.poll_once.new.self (thing_of t) replies.Pending) (sym c.of_request.ensures)
-            (pending_answered c.args.place c.poll_once.result c.poll_once.new.self (c.in-Ok-Pending.is ∙ ap Ok c.in-Ok-Pending.field-0-is));
+            (subst (λ (k : ℕ). IsAnswered c.args.place c.poll_once.result c.poll_once.new.self (things.Request k c.poll_once.new.self) replies.Pending) (sym here)
+            (pending_answered c.args.place c.poll_once.result c.poll_once.new.self (c.in-Ok-Pending.is ∙ ap Ok c.in-Ok-Pending.field-0-is)));
       };
     }
 
