@@ -10,7 +10,7 @@ use Rattle.band_play.specs.declared.fault.PlayFault.{PlayFault}
 use Rattle.band_play.specs.declared.fault.PlayFault.TheVariants as faults
 use Rattle.band_play.specs.declared.playing.Playing.{Playing}
 use Rattle.band_play.specs.Script.{Verdict, Good, Malformed, TooLong, verdict, verdict_from, verdict_at_end, lines_of, rest_of, calls_of, calls_within, transcript}
-use Rattle.band_play.specs.Play.{Comes, AllRead, Takes, TakesJust, AddsFront, PlaysGiven, StopsEarly, WritesFront, KeepsUp, answer_of, Completes}
+use Rattle.band_play.specs.Play.{Comes, AllRead, Takes, TakesJust, AddsFront, PlaysGiven, StopsEarly, WritesFront, AnswersGiven, KeepsUp, answer_of, Completes}
 use Rattle.band_play.specs.Playing.{HasPlayed, PlaysPiece, Stops, StopsInPiece}
 use Rattle.band_play.specs.Answers.{Counts, Answers, answer_at_end}
 use Rattle.std.proofs.lemmas.Option.{none-some, same_Some}
@@ -231,18 +231,23 @@ front_over limit left piece cut old new first mid last before between after q gi
     writes_front_of limit (q.given ++ piece) first last before after (gives_more q.given piece first mid last q.front gives)
     (subst P (ap (λ p. q.given ++ p) is ∙ given_within limit left q.given piece q.size) (whole_front _ before after (all_written (q.given ++ cut) new before after (plays q.given before q.played))))
 
-keeps_up_of : (limit : ℕ) (given piece text : List ℕ) (first last before after : Option (List ℕ)) → GivesFront (given ++ piece) first last → length piece ≤ 4096 → Adds (transcript (calls_within limit given) ++ text) before after → KeepsUp limit first last before after
-keeps_up_of limit given piece text None last before after gives size adds = tt
-keeps_up_of limit given piece text (Some bytes) None before after gives size adds = absurd gives
-keeps_up_of limit given piece text (Some bytes) (Some more) before after gives size adds = (given, piece, gives, size, (text, adds))
+keeps_up_of : (limit : ℕ) (given : List ℕ) (first last before after : Option (List ℕ)) → GivesFront given first last → AnswersGiven limit given before after → KeepsUp limit first last before after
+keeps_up_of limit given None last before after gives answers = tt
+keeps_up_of limit given (Some bytes) None before after gives answers = absurd gives
+keeps_up_of limit given (Some bytes) (Some more) before after gives answers = (given, gives, answers)
 
 -- what was played before a piece was answered, whatever was written since
 pub keeps_up : (limit left : ℕ) (piece text : List ℕ) (playing : Playing) (first mid last before between after : Option (List ℕ)) → SoFar limit left playing first mid before between → GivesFront piece mid last → length piece ≤ 4096 → Adds text between after → KeepsUp limit first last before after
 keeps_up limit left piece text playing first mid last before between after q gives size adds =
-    let P : List ℕ → Type 0 = λ g. Adds (transcript (calls_of (lines_of g))) before between in
-    keeps_up_of limit q.given piece text first last before after (gives_more q.given piece first mid last q.front gives) size
-    (adds_more (transcript (calls_within limit q.given)) text before between after
-    (subst P (sym (within_limit limit left q.given q.size)) (all_written q.given playing before between q.played)) adds)
+    keeps_up_of limit (q.given ++ piece) first last before after (gives_more q.given piece first mid last q.front gives) (record {
+      played = q.given;
+      end = piece;
+      whole = refl;
+      most = size;
+      within = omega (arith, q.size);
+      each = q.played.run.each;
+      answered = (text, adds_more (transcript (calls_of (lines_of q.given))) text before between after (all_written q.given playing before between q.played) adds);
+    })
 
 pub keeps_up_still : (limit left : ℕ) (playing : Playing) (first mid last before after : Option (List ℕ)) → SoFar limit left playing first mid before after → last ≡ mid → KeepsUp limit first last before after
 keeps_up_still limit left playing first mid last before after q same =
@@ -252,9 +257,15 @@ keeps_up_still limit left playing first mid last before after q same =
 -- where nothing was taken or written
 pub keeps_up-none : (limit : ℕ) (left before : Option (List ℕ)) → KeepsUp limit left left before before
 keeps_up-none limit left before =
-    let nothing : transcript (calls_within limit []) ≡ [] = ap (λ bytes. transcript (calls_of (lines_of bytes))) (take_all limit [] (omega arith)) in
-    let P : List ℕ → Type 0 = λ text. Adds (text ++ []) before before in
-    keeps_up_of limit [] [] [] left left before before (gives_nothing left) (omega arith) (subst P (sym nothing) (adds_nothing before))
+    keeps_up_of limit [] left left before before (gives_nothing left) (record {
+      played = [];
+      end = [];
+      whole = refl;
+      most = omega arith;
+      within = omega arith;
+      each = tt;
+      answered = ([], adds_nothing before);
+    })
 
 -- how much was taken
 pub takes_so_far : (limit left n : ℕ) (playing : Playing) (first mid last before after : Option (List ℕ)) → SoFar limit left playing first mid before after → Takes n mid last → n ≤ left + 1 → Takes (limit + 1) first last

@@ -62,14 +62,23 @@ WritesFront limit (Some bytes) (Some left) before after =
 abbrev pub BeginsWith : List ℕ → Option (List ℕ) → Option (List ℕ) → Type 0
 BeginsWith text before after = (rest : List ℕ) × Adds (text ++ rest) before after
 
--- where the source told its bytes: all that it gave before its last piece, of at most 4096 bytes, was answered, whatever came
--- of that piece
+-- but for at most 4096 bytes at its end, what was given stands within the limit, each of its ended lines stands for a call, and
+-- it was answered
+pub record AnswersGiven (limit : ℕ) (given : List ℕ) (before after : Option (List ℕ)) : Type 0 where
+  pub played : List ℕ
+  pub end : List ℕ
+  pub whole : played ++ end ≡ given
+  pub most : length end ≤ 4096
+  pub within : length played ≤ limit
+  pub each : AllByRecursion (λ line. IsSome (call_of line)) (lines_of played)
+  pub answered : BeginsWith (transcript (calls_of (lines_of played))) before after
+
+-- where the source told its bytes: all but an end of what it gave was played and answered, whatever came of that end
 abbrev pub KeepsUp : ℕ → Option (List ℕ) → Option (List ℕ) → Option (List ℕ) → Option (List ℕ) → Type 0
 KeepsUp limit None left before after = Unit {0}
 KeepsUp limit (Some bytes) None before after = ⊥
 KeepsUp limit (Some bytes) (Some left) before after =
-    (played : List ℕ) × (piece : List ℕ) × (bytes ≡ (played ++ piece) ++ left) × (length piece ≤ 4096)
-    × BeginsWith (transcript (calls_within limit played)) before after
+    (given : List ℕ) × (bytes ≡ given ++ left) × AnswersGiven limit given before after
 
 -- the answer that tells an outcome
 abbrev pub answer_of : Verdict → Result ℕ PlayFault

@@ -46,7 +46,7 @@ pub fn run<S: Source, D: Sink, E: Sink, L: Ledger>(
     ensures write { result ≡ 6 → Rose (D.faults dst.old) (D.faults dst.new) }
     // Whatever the status is.
     ensures front { WritesFront program_limit (S.left src.old) (S.left src.new) (D.written dst.old) (D.written dst.new) }
-    // Each piece is answered before the next is read.
+    // What was given is answered, but for an end of it.
     ensures keeps_up { KeepsUp program_limit (S.left src.old) (S.left src.new) (D.written dst.old) (D.written dst.new) }
     // Where neither end failed, the status tells the outcome, or there was no memory.
     ensures completes { map string_bytes words.now ≡ codes "play" ∷ [] → (Rose (S.faults src.old) (S.faults src.new) → ⊥) → (Rose (D.faults dst.old) (D.faults dst.new) → ⊥) → CompletesAs program_limit (S.left src.old) result }

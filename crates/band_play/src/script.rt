@@ -35,7 +35,7 @@ pub fn play<S: Source, D: Sink, L: Ledger>(
     ensures write { result ≡ Err PlayFault.Write → Rose (D.faults dst.old) (D.faults dst.new) }
     // Whatever the answer is.
     ensures front { WritesFront limit (S.left src.old) (S.left src.new) (D.written dst.old) (D.written dst.new) }
-    // Each piece is answered before the next is read.
+    // What was given is answered, but for an end of it.
     ensures keeps_up { KeepsUp limit (S.left src.old) (S.left src.new) (D.written dst.old) (D.written dst.new) }
     // Where neither end failed, the answer tells the outcome, or there was no memory.
     ensures completes { (Rose (S.faults src.old) (S.faults src.new) → ⊥) → (Rose (D.faults dst.old) (D.faults dst.new) → ⊥) → Completes limit (S.left src.old) result }

@@ -50,3 +50,24 @@ impl Sink for Full {
         Err(SinkError::NoMemory)
     }
 }
+
+/// A sink that has no memory for the first piece, and takes all later ones.
+#[derive(Drop)]
+pub(crate) struct FullOnce {
+    pub(crate) later: BytesOut,
+    pub(crate) was_full: bool,
+}
+
+impl Sink for FullOnce {
+    ghost written = { λ _. None };
+
+    ghost faults = { λ _. 0 };
+
+    fn write(&mut self, piece: &[u8]) -> Result<usize, SinkError> {
+        if !self.was_full {
+            self.was_full = true;
+            return Err(SinkError::NoMemory);
+        }
+        self.later.write(piece)
+    }
+}

@@ -137,3 +137,15 @@ fn writes_before_it_reads_again(rt: HostRuntime) -> Result<(), Fail> {
     assert_eq!(rt; &piece[..count], b"sem t 1\n".as_slice());
     Ok(())
 }
+
+#[test]
+fn reads_no_more_after_a_malformed_line(rt: HostRuntime) -> Result<(), Fail> {
+    let mut src = FailingIn::new(b"sem\nsem t 1\n", 4, &[]);
+    let mut dst = BytesOut::new(rt.alloc());
+    let said = play_on(rt.alloc(), &mut src, &mut dst, 100)?;
+    assert_eq!(rt; said.as_str(), "malformed line 1");
+    let mut piece = [0; 100];
+    let count = src.read(&mut piece)?;
+    assert_eq!(rt; &piece[..count], b"sem ".as_slice());
+    Ok(())
+}

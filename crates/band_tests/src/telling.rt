@@ -1,7 +1,7 @@
 //! What the program tells on standard error.
 ghost use Rattle.std.specs.Prelude.{◌≡◌, ◌<◌};
 
-use crate::devices::Full;
+use crate::devices::{Full, FullOnce};
 use band_base::{BytesIn, BytesOut, FailingIn, FailingOut, Sink, Source, Steps};
 use band_play::run;
 use std::alloc::{AllocError, Global};
@@ -114,6 +114,21 @@ fn a_fault_of_err_leaves_the_status(rt: HostRuntime) -> Result<(), Fail> {
     };
     assert_eq!(rt; run_over(rt.alloc(), "play", &mut streams)?, 7);
     assert_eq!(rt; run_over(rt.alloc(), "no", &mut streams)?, 7);
+    Ok(())
+}
+
+#[test]
+fn want_of_memory_ends_the_telling(rt: HostRuntime) -> Result<(), Fail> {
+    let mut streams = Streams {
+        src: BytesIn::new(b"sem\n"),
+        dst: BytesOut::new(rt.alloc()),
+        err: FullOnce {
+            later: BytesOut::new(rt.alloc()),
+            was_full: false,
+        },
+    };
+    assert_eq!(rt; run_over(rt.alloc(), "play", &mut streams)?, 7);
+    assert_eq!(rt; streams.err.later.bytes(), b"".as_slice());
     Ok(())
 }
 
