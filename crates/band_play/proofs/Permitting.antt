@@ -1,5 +1,5 @@
 -- A call of a permit by its name follows the step of the state.
-use Rattle.std.proofs.Common.{◌≡◌, ℕ, Bool, ◌-◌, ◌≤◌, List, [], Option, Some, None, Ok, Err, refl, ap, ◌∙◌, subst, ◌<◌, cond, true, false, ◌⊎◌, inl, inr, IsNone, IfSome, IfNone, leb, sym}
+use Rattle.std.proofs.Common.{◌≡◌, ℕ, Bool, ◌-◌, ◌≤◌, List, [], Option, Some, None, Result, Ok, Err, refl, ap, ◌∙◌, subst, ◌<◌, cond, true, false, sym}
 use Rattle.std.specs.List.{slice_get, slice_set}
 use Rattle.band_balance.specs.Object.{Object, Mode, Permit, Lock, Read, Write, Turn, forget, split}
 use Rattle.band_balance.specs.Object as answers
@@ -15,8 +15,7 @@ use Rattle.band_play.specs.Names.{Updated}
 use Rattle.band_play.specs.State.{State, Named, Tag, is_tag, standing, tag, permit_tag}
 use Rattle.band_play.specs.Step.{Outcome, refused, turn_of, turn_at, same_mode, if_held, held_by, on_held, unless_taken, forgetting, splitting}
 use Rattle.band_play.specs.Table.{StandsUnder, IsKnown}
-use Rattle.std.proofs.lemmas.Bool.Decides.{leb_tells}
-use Rattle.band_play.specs.Moves.{held_as, FitsHolding, SplitsOff, FallsShort}
+use Rattle.band_play.specs.Moves.{held_as, FitsHolding}
 use Rattle.std.proofs.lemmas.Option.{none-some}
 use Rattle.band_play.proofs.Standing.{standing_of, same_bytes}
 use Rattle.std.specs.Str.{bytes_eq}
@@ -156,63 +155,39 @@ module _ (names : ℕ → ℕ → Tag) (table : List ℕ → Option Thing) (sems
         (too_few names table table table sems state permit.of sem named stands at_sem at_named quiet name made permit.count n beyond own)
         at_sem refl
 
--- a change of one name that was made after another's room, made before it
-module _ (t0 t1 t2 t3 : List ℕ → Option Thing) (made name : List ℕ) (room v w : Option Thing) (apart : bytes_eq name made ≡ false)
-    (reserved : Updated t0 t1 made room) (changed : Updated t1 t2 name v) (set : Updated t2 t3 made w) where
-  abbrev pub between : List ℕ → Option Thing
-  between n = cond (bytes_eq name n) v (t0 n)
-
-  pub change_first : Updated t0 between name v
-  change_first = record {
-    here = λ n same. cond_true (bytes_eq name n) v (t0 n) same;
-    others = λ n other. cond_false (bytes_eq name n) v (t0 n) other;
-  }
-
-  pub room_still : between made ≡ t0 made
-  room_still = cond_false (bytes_eq name made) v (t0 made) apart
-
-  pub then_set : Updated between t3 made w
-  then_set = record {
-    here = set.here;
-    others = λ n other. set.others n other ∙ by_bool (bytes_eq name n)
-        (λ same. changed.here n same ∙ sym (cond_true (bytes_eq name n) v (t0 n) same))
-        (λ apart_n. changed.others n apart_n ∙ reserved.others n other ∙ sym (cond_false (bytes_eq name n) v (t0 n) apart_n));
-  }
-
-module _ (name : List ℕ) (n : ℕ) (table table' : List ℕ → Option Thing) (whole left : HoldingState) where
-  pub parted : (result : Option HoldingState) → held_as Permit (table name) ≡ Ok whole → Updated table table' name (Some (things.Holding left)) → (whole.count < n → IsNone result)
-      → IfSome result (λ part. (part ≡ record whole { count = n }) × (left ≡ record whole { count = whole.count - n }))
-      → IfSome result (λ part. SplitsOff name n table table' part)
-  parted None was set beyond parts = tt
-  parted (Some part) was set beyond parts = record {
-    whole = whole;
-    was = was;
-    enough = by_order (leb_tells n whole.count);
-    part_is = parts.0;
-    updated = subst (λ (p : HoldingState). Updated table table' name (Some (things.Holding p))) parts.1 set;
-  }
-    where
-      by_order : ((leb n whole.count ≡ true) × (n ≤ whole.count)) ⊎ ((leb n whole.count ≡ false) × (whole.count < n)) → n ≤ whole.count
-      by_order (inl (test, most)) = most
-      by_order (inr (test, less)) = absurd (is_some_not (beyond less))
-        where
-          is_some_not : IsNone (Some part) → ⊥
-          is_some_not e = cc
-
-  pub short : (result : Option HoldingState) → held_as Permit (table name) ≡ Ok whole → Updated table table' name (Some (things.Holding left)) → (IsNone result → whole.count < n)
-      → IfNone result (left ≡ whole) → IfNone result (FallsShort name n table table')
-  short (Some part) was set beyond same = tt
-  short None was set beyond same = record {
-    whole = whole;
-    was = was;
-    fewer = beyond refl;
-    same = same_table table table' name (Some (things.Holding whole)) (subst (λ (p : HoldingState). Updated table table' name (Some (things.Holding p))) same set) (permit_from Permit (table name) whole was).0;
-  }
-
 -- a live name is not one that is free
 pub two_names : (table : List ℕ → Option Thing) (name made : List ℕ) (thing : Thing) → table name ≡ Some thing → table made ≡ None → bytes_eq name made ≡ false
 two_names table name made thing live absent =
     by_bool (bytes_eq name made) (λ same. absurd (none-some thing (sym absent ∙ ap table (sym (same_bytes name made same)) ∙ live))) (λ other. other)
+
+-- a name that was taken out, put back after another was added: it is as if it was changed first
+module _ (t0 t1 t2 t3 : List ℕ → Option Thing) (name made : List ℕ) (room v w : Option Thing) (apart : bytes_eq name made ≡ false)
+    (out : Updated t0 t1 name room) (added : Updated t1 t2 made w) (back : Updated t2 t3 name v) where
+  abbrev pub between : List ℕ → Option Thing
+  between n = cond (bytes_eq name n) v (t0 n)
+
+  pub changed_first : Updated t0 between name v
+  changed_first = record {
+    here = λ n same. cond_true (bytes_eq name n) v (t0 n) same;
+    others = λ n other. cond_false (bytes_eq name n) v (t0 n) other;
+  }
+
+  pub then_added : Updated between t3 made w
+  then_added = record {
+    here = λ n same. back.others n (ap (bytes_eq name) (sym (same_bytes made n same)) ∙ apart) ∙ added.here n same;
+    others = λ n other. by_bool (bytes_eq name n)
+        (λ same. back.here n same ∙ sym (cond_true (bytes_eq name n) v (t0 n) same))
+        (λ apart_n. back.others n apart_n ∙ added.others n other ∙ out.others n apart_n ∙ sym (cond_false (bytes_eq name n) v (t0 n) apart_n));
+  }
+
+-- a name that was taken out and put back as it was
+pub as_before : (t0 t1 t2 t3 : List ℕ → Option Thing) (name : List ℕ) (room v : Option Thing) → Updated t0 t1 name room → ((n : List ℕ) → t2 n ≡ t1 n) → Updated t2 t3 name v → t0 name ≡ v → (n : List ℕ) → t3 n ≡ t0 n
+as_before t0 t1 t2 t3 name room v out same back is =
+    same_table t0 t3 name v (record { here = back.here; others = λ n other. back.others n other ∙ same n ∙ out.others n other }) is
+
+-- one answer has one holding
+pub same_holding : (answer : Result HoldingState Refusal) (a b : HoldingState) → answer ≡ Ok a → answer ≡ Ok b → a ≡ b
+same_holding answer a b one other = cc
 
 pub permit_same : (a b : HoldingState) → Some (things.Holding a) ≡ Some (things.Holding b) → a ≡ b
 permit_same a b e = cc

@@ -6,14 +6,12 @@ use Rattle.std.specs.Option.{IsSome}
 use Rattle.std.specs.Result.{OnErr, is_ok}
 use Rattle.std.proofs.lemmas.Option.{none-some}
 use Rattle.band_balance.specs.Object.{Object, Kind, Permit}
-use Rattle.band_play.specs.Objects.{ObjectState, HoldingState, IsSteady}
+use Rattle.band_play.specs.Objects.{ObjectState, IsSteady}
 use Rattle.band_sem.specs.declared.refusal.Refusal.{Refusal}
 use Rattle.band_sem.specs.declared.refusal.Refusal.TheVariants as refusals
 use Rattle.band_play.specs.declared.object.Want.{Want}
 use Rattle.band_play.specs.Thing.{Thing}
 use Rattle.band_play.specs.Thing as things
-use Rattle.band_play.specs.Token.{TokenState, thing_of}
-use Rattle.band_play.specs.Token as tokens
 use Rattle.band_play.specs.declared.table.Table.{Table}
 use Rattle.band_play.specs.declared.reply.Reply.{Reply}
 use Rattle.band_play.specs.declared.reply.Reply.TheVariants as replies
@@ -26,17 +24,6 @@ use Rattle.band_play.specs.Kept.{IsSound, Follows, Remains, Stays, OthersQuiet, 
 use Rattle.band_play.proofs.Follow.{Matches, unchanged_table, refused_follows, ask_refused, ask_taken, ask_follows, poll_unknown, poll_follows, drop_unknown, drop_object, drop_request, drop_permit, others_quiet}
 use Rattle.band_play.proofs.Making.{make_taken, make_follows, fresh, unused, quiet_push}
 use Rattle.band_play.proofs.Sound.{quiet_all, sound_after, sound_still}
-
--- two changes at one name are one
-pub updated_twice : (a b d : List ℕ → Option Thing) (name : List ℕ) (v w : Option Thing) → Updated a b name v → Updated b d name w → Updated a d name w
-updated_twice a b d name v w first second = record {
-  here = second.here;
-  others = λ n other. second.others n other ∙ first.others n other;
-}
-
--- a token that is a holding is set as one
-pub set_holding : (table table' : List ℕ → Option Thing) (name : List ℕ) (token : TokenState) (holding : HoldingState) → token ≡ tokens.Holding holding → Updated table table' name (Some (thing_of token)) → Updated table table' name (Some (things.Holding holding))
-set_holding table table' name token holding is update = subst (λ (t : TokenState). Updated table table' name (Some (thing_of t))) is update
 
 pub some_of : {A : Type 0} (o : Option A) → IsSome o → (x : A) × (o ≡ Some x)
 some_of None h = cc

@@ -1,5 +1,6 @@
 -- What a poll and a drop of a thing make of the semaphores.
 use Rattle.std.specs.Prelude.{◌≡◌, ℕ, Bool, true, false, [], ◌+◌, ◌-◌, ◌<◌, ◌≤◌, ◌==◌, if◌then◌else◌, List, length, Option, Some, None, Result, Ok, Err, slice_get, slice_set}
+use Rattle.std.specs.BTreeMap.{BTreeMap}
 use Rattle.std.specs.Str.{bytes_eq}
 use Rattle.band_balance.specs.Line.{open_line, give_back, u64_max}
 use Rattle.band_base.specs.declared.poll.Poll.{Poll}
@@ -22,9 +23,11 @@ use Rattle.band_play.specs.declared.object.Want.{Want}
 use Rattle.band_play.specs.declared.object.Want.TheVariants as wants
 use Rattle.band_play.specs.declared.reply.Reply.{Reply}
 use Rattle.band_play.specs.declared.reply.Reply.TheVariants as replies
+use Rattle.band_play.specs.Apart.{Sets}
 use Rattle.band_play.specs.Names.{Updated}
 use Rattle.band_play.specs.Thing.{Thing}
 use Rattle.band_play.specs.Thing as things
+use Rattle.band_play.specs.Token.{TokenState, thing_of}
 
 abbrev pub IsJoined : Stage → Type 0
 IsJoined stages.NotPolled = ⊥
@@ -164,20 +167,21 @@ pub record PollsName (name : List ℕ) (waker : ℕ) (table table' : List ℕ �
   pub polled : PollsThing found waker old left reply new
   pub updated : Updated table table' name (Some left)
 
--- n of a permit's go to a new one
-pub record SplitsOff (name : List ℕ) (n : ℕ) (table table' : List ℕ → Option Thing) (part : HoldingState) : Type 0 where
+-- it is a permit of n at least
+pub record HasPermits (found : Option Thing) (n : ℕ) : Type 0 where
   pub whole : HoldingState
+  pub is : held_as Permit found ≡ Ok whole
+  pub enough : n ≤ whole.count
+
+-- n of a permit's go to a new name
+pub record SplitsTo (name made : List ℕ) (n : ℕ) (table table' : List ℕ → Option Thing) (place : ℕ) : Type 0 where
+  pub whole : HoldingState
+  pub mid : List ℕ → Option Thing
   pub was : held_as Permit (table name) ≡ Ok whole
   pub enough : n ≤ whole.count
-  pub part_is : part ≡ record whole { count = n }
-  pub updated : Updated table table' name (Some (things.Holding (record whole { count = whole.count - n })))
-
--- it has fewer than n, and no name changes
-pub record FallsShort (name : List ℕ) (n : ℕ) (table table' : List ℕ → Option Thing) : Type 0 where
-  pub whole : HoldingState
-  pub was : held_as Permit (table name) ≡ Ok whole
-  pub fewer : whole.count < n
-  pub same : (other : List ℕ) → table' other ≡ table other
+  pub at : place ≡ whole.of
+  pub parted : Updated table mid name (Some (things.Holding (record whole { count = whole.count - n })))
+  pub added : Updated mid table' made (Some (things.Holding (record whole { count = n })))
 
 -- the place of the object of two permits that can become one, or why they can't
 abbrev pub mergeable_held : List ℕ → List ℕ → Result HoldingState Refusal → Result HoldingState Refusal → Result ℕ Refusal
@@ -228,6 +232,18 @@ pub record AsksFirst (place : ℕ) (want : Want) (waker : ℕ) (old : List Objec
   pub kind : object.Kind
   pub there : kind_at (slice_get old place) ≡ Some kind
   pub polls : PollsRequest place (record { mode = mode_of want; of = place; size = size_for want kind; stage = stages.NotPolled }) waker old thing reply new
+
+-- a new token is a request of the object at a place that was polled first
+pub record AddsRequest (name : List ℕ) (place : ℕ) (want : Want) (waker : ℕ) (tokens tokens' : BTreeMap (List ℕ) TokenState) (old new : List ObjectState) (reply : Reply) : Type 0 where
+  pub token : TokenState
+  pub asked : AsksFirst place want waker old (thing_of token) reply new
+  pub sets : Sets tokens tokens' name (Some token)
+
+-- a new name is a request of the object at a place that was polled first
+pub record AsksName (name : List ℕ) (place : ℕ) (want : Want) (waker : ℕ) (table table' : List ℕ → Option Thing) (old new : List ObjectState) (reply : Reply) : Type 0 where
+  pub left : Thing
+  pub asked : AsksFirst place want waker old left reply new
+  pub updated : Updated table table' name (Some left)
 
 -- what a call makes
 abbrev pub kind_made : New → object.Kind

@@ -1,9 +1,10 @@
 //! The calls that the lines of a script stand for.
+ghost use Rattle.std.specs.Prelude.{◌≡◌};
 
 use crate::Name;
 
 /// What a line asks for.
-#[derive(Debug, Drop, PartialEq, Eq)]
+#[derive(Debug, Clone, Drop, PartialEq, Eq)]
 pub enum Call {
     /// `sem S N`: makes a semaphore of `n` permits.
     Sem {
@@ -112,4 +113,13 @@ pub enum Call {
     Status {
         name: Name,
     },
+}
+
+impl Call {
+    /// The same call again. It takes no memory.
+    pub(crate) fn copy(&self) -> Call
+        ensures { result ≡ self.now }
+    {
+        self.clone().unwrap()
+    }
 }

@@ -1,6 +1,7 @@
 //! Scripts of calls on named objects: the grammar, the player, and the program over bytes.
 #![tactic(auto)]
 
+mod boxed_token;
 mod call;
 mod fault;
 mod grammar;
@@ -10,6 +11,7 @@ mod laws;
 mod lines;
 mod name;
 mod names;
+mod new_token;
 mod number;
 mod object;
 mod outlet;

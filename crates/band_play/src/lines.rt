@@ -23,16 +23,16 @@ pub(crate) fn split_line(bytes: &[u8]) -> Option<(&[u8], &[u8])>
 /// Runs a call, and adds its reply and its wakes to a text.
 pub(crate) fn tell_call<L: Ledger>(
     player: &mut Player,
-    call: &Call,
+    call: Call,
     text: &mut String,
     steps: &mut Steps<L>,
 ) -> Result<(), AllocError>
     requires quiet { wakers_left player.old ≡ [] }
-    requires readers { ForReaders call.now }
-    ensures tells { OnOk result (Tells call.now player.old player.new (string_bytes text.old) (string_bytes text.new)) }
+    requires readers { ForReaders call }
+    ensures tells { OnOk result (Tells call player.old player.new (string_bytes text.old) (string_bytes text.new)) }
     ensures quiet { OnOk result (wakers_left player.new ≡ []) }
 {
-    let reply = player.step(call, steps)?;
+    let reply = player.run(call, steps)?;
     push_reply(text, &reply)?;
     push_wakes(player, text)
 }

@@ -1,5 +1,5 @@
 //! The names of a script.
-ghost use Rattle.std.specs.Prelude.{◌≡◌, ℕ, ◌↔◌, List, Some, IsSome, IfSome, nat_eq, refl};
+ghost use Rattle.std.specs.Prelude.{◌≡◌, ℕ, ◌↔◌, List, Some, IsSome, IfSome, ⊤, nat_eq, refl};
 ghost use Rattle.std.specs.List.{list_all};
 ghost use Rattle.std.specs.Ordering.{nat_cmp};
 ghost use Rattle.std.specs.Cmp.{partial_equiv_from_equiv};
@@ -8,6 +8,7 @@ ghost use Rattle.band_play.specs.Name.{is_name_byte, is_name, IsName, name_of};
 
 use crate::text::text_of;
 use arrayvec::ArrayString;
+use std::alloc::AllocError;
 use std::cmp::Ordering;
 use std::marker::Model;
 
@@ -51,13 +52,6 @@ impl Name {
     {
         self.text.as_str()
     }
-
-    /// The same name again. It takes no memory.
-    pub fn copy(&self) -> Name
-        ensures { result ≡ self.now }
-    {
-        Name { text: self.text }
-    }
 }
 
 fn is_name(word: &[u8]) -> bool
@@ -79,6 +73,16 @@ fn is_name_byte(byte: u8) -> bool
     ensures { result ≡ is_name_byte byte }
 {
     matches!(byte, b'a'..=b'z' | b'0'..=b'9' | b'_')
+}
+
+impl Clone for Name {
+    ghost is_clone = { λ name clone. clone ≡ name };
+
+    ghost is_infallible = { λ _. ⊤ };
+
+    fn clone(&self) -> Result<Name, AllocError> {
+        Ok(Name { text: self.text })
+    }
 }
 
 impl PartialEq for Name {

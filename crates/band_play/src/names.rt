@@ -2,32 +2,37 @@
 ghost use Rattle.std.proofs.Props.{props};
 ghost use Rattle.band_play.specs.Apart.{AreApart};
 
+use crate::boxed_token::BoxedToken;
 use crate::holding::Holding;
-use crate::object::Object;
+use crate::new_token::{add_holding, add_part, add_request};
+use crate::object::{Object, Want};
 use crate::token::Token;
 use crate::{Name, Reply};
 use band_base::{Steps, Waker};
 use band_sem::Refusal;
 use std::alloc::{AllocError, Global};
 use std::collections::BTreeMap;
-use std::mem;
 use std::sync::ledger::Ledger;
 
 /// What each live name is: an object, by its place, or a token. An object takes no room for a token.
 pub(crate) struct Names {
     objects: BTreeMap<Name, u64>,
-    tokens: BTreeMap<Name, Token>,
+    tokens: BTreeMap<Name, BoxedToken>,
+    alloc: Global,
     ghost apart: { AreApart objects tokens } by { Prim.hlevel props },
 }
 
 impl Names {
-    ghost use Rattle.std.specs.Prelude.{◌≡◌, ℕ, ◌↔◌, List, None, Some, Ok, Err, IsSome, IfSome, OnOk, OnErr, IsOk, IsTrue, IfNone, MatchResult, false, option_map};
+    ghost use Rattle.std.specs.Prelude.{◌≡◌, ℕ, ◌+◌, ◌-◌, ◌<◌, ◌≤◌, ◌↔◌, List, length, None, Some, Ok, Err, IsSome, IfSome, IfOk, OnOk, OnErr, IsOk, IsTrue, IfNone, MatchResult, false, option_map};
+    ghost use Rattle.band_balance.specs.Line.{is_served, take_permits};
     ghost use Rattle.band_balance.specs.Object.{Permit, Write};
+    ghost use Rattle.band_play.specs.Objects.{HoldingState, IsSteady};
+    ghost use Rattle.band_play.specs.Step.{is_of};
     ghost use Rattle.band_play.specs.Thing.{Thing};
     ghost use Rattle.band_play.specs.Thing as things;
     ghost use Rattle.band_play.specs.Token.{ended, thing_of};
     ghost use Rattle.band_play.specs.Names.{thing_at, AreSame, Updated, is_object};
-    ghost use Rattle.band_play.specs.Moves.{IsFit, PollsName, object_of, held_as, HeldAt, SplitsOff, FallsShort, CanGrow, Grows, Downgrades};
+    ghost use Rattle.band_play.specs.Moves.{IsFit, AsksName, IsOffered, PollsName, mode_of, size_for, object_of, held_as, HeldAt, HasPermits, SplitsTo, CanGrow, Grows, Downgrades};
 
     /// No name.
     pub(crate) fn new(alloc: Global) -> Names
@@ -36,6 +41,7 @@ impl Names {
         Names {
             objects: BTreeMap::new(alloc),
             tokens: BTreeMap::new(alloc),
+            alloc,
         }
     }
 
@@ -71,7 +77,7 @@ impl Names {
             (λ refusal. held_as Permit (thing_at self.now name.now) ≡ Err refusal) }
     {
         match self.tokens.get(name) {
-            Some(token) => token.permit_of(),
+            Some(token) => token.get().permit_of(),
             None if self.objects.contains_key(name) => Err(Refusal::Kind),
             None => Err(Refusal::Unknown),
         }
@@ -84,62 +90,122 @@ impl Names {
             (λ refusal. held_as Write (thing_at self.now name.now) ≡ Err refusal) }
     {
         match self.tokens.get(name) {
-            Some(token) => token.writer_of(),
+            Some(token) => token.get().writer_of(),
             None if self.objects.contains_key(name) => Err(Refusal::Kind),
             None => Err(Refusal::Unknown),
         }
     }
 
+    /// How many permits the one with this name has.
+    pub(crate) fn permits(&self, name: &Name) -> u64
+        requires { IsOk (held_as Permit (thing_at self.now name.now)) }
+        ensures { (permit : HoldingState) → held_as Permit (thing_at self.now name.now) ≡ Ok permit → result ≡ permit.count }
+    {
+        self.tokens.get(name).unwrap().get().permits()
+    }
+
     /// Adds a name that isn't live, for the object at a place.
-    pub(crate) fn add_object(&mut self, name: &Name, place: u64) -> Result<(), AllocError>
-        requires { thing_at self.old name.now ≡ None }
-        ensures ok { OnOk result (Updated (thing_at self.old) (thing_at self.new) name.now (Some (things.Object place))) }
+    pub(crate) fn add_object(&mut self, name: Name, place: u64) -> Result<(), AllocError>
+        requires { thing_at self.old name ≡ None }
+        ensures ok { OnOk result (Updated (thing_at self.old) (thing_at self.new) name (Some (things.Object place))) }
         ensures err { OnErr result (AreSame self.old self.new) }
     {
-        match self.objects.insert(name.copy(), place) {
+        match self.objects.insert(name, place) {
             Ok(_) => Ok(()),
             Err(_) => Err(AllocError),
         }
     }
 
-    /// Adds a name that isn't live, with a request that has ended in place of what it will be.
-    pub(crate) fn reserve(&mut self, name: &Name) -> Result<(), AllocError>
-        requires { thing_at self.old name.now ≡ None }
-        ensures ok { OnOk result (Updated (thing_at self.old) (thing_at self.new) name.now (Some (thing_of ended))) }
+    /// Adds a name that isn't live, for a request of the object at a place, and polls it first.
+    pub(crate) fn ask<L: Ledger>(
+        &mut self,
+        objects: &mut Vec<Object>,
+        place: u64,
+        want: Want,
+        name: Name,
+        waker: Waker,
+        steps: &mut Steps<L>,
+    ) -> Result<Reply, AllocError>
+        requires free { thing_at self.old name ≡ None }
+        requires there { place < length objects.old.items }
+        requires offered { IsOffered objects.old.items place want }
+        ensures ok { IfOk result (λ reply. AsksName name place want waker.0 (thing_at self.old) (thing_at self.new) objects.old.items objects.new.items reply) }
+        ensures err { OnErr result (AreSame self.old self.new × (objects.new.items ≡ objects.old.items)) }
+    {
+        add_request(
+            &mut self.tokens,
+            self.alloc,
+            objects,
+            place,
+            want,
+            name,
+            waker,
+            steps,
+        )
+    }
+
+    /// Adds a name that isn't live, for what an object offers and can give without waiting.
+    pub(crate) fn take(
+        &mut self,
+        object: &mut Object,
+        want: Want,
+        name: Name,
+    ) -> Result<(), AllocError>
+        requires free { thing_at self.old name ≡ None }
+        requires offered { IsTrue (is_of object.old.kind (mode_of want)) }
+        requires served { IsTrue (is_served (size_for want object.old.kind) object.old.line) }
+        ensures ok { OnOk result (Updated (thing_at self.old) (thing_at self.new) name (Some (things.Holding (record { mode = mode_of want; of = object.old.number; count = size_for want object.old.kind })))) }
+        ensures taken { OnOk result (object.new ≡ record object.old { line = take_permits (size_for want object.old.kind) object.old.line; held = object.old.held + size_for want object.old.kind }) }
+        ensures steady { OnOk result (IsSteady object.new) }
+        ensures err { OnErr result (AreSame self.old self.new × (object.new ≡ object.old)) }
+    {
+        add_holding(&mut self.tokens, self.alloc, object, want, name)
+    }
+
+    /// Adds a name that isn't live, for `n` of a permit's.
+    fn add_part(&mut self, permit: &mut Holding, name: Name, n: u64) -> Result<(), AllocError>
+        requires free { thing_at self.old name ≡ None }
+        requires mode { permit.old.mode ≡ Permit }
+        requires enough { n ≤ permit.old.count }
+        ensures ok { OnOk result (Updated (thing_at self.old) (thing_at self.new) name (Some (things.Holding (record permit.old { count = n })))) }
+        ensures parted { OnOk result (permit.new ≡ record permit.old { count = permit.old.count - n }) }
+        ensures err { OnErr result (AreSame self.old self.new × (permit.new ≡ permit.old)) }
+    {
+        add_part(&mut self.tokens, self.alloc, permit, name, n)
+    }
+
+    /// Moves `n` permits of the one with this name to a new one, and answers the place of their object.
+    pub(crate) fn split(&mut self, name: &Name, made: Name, n: u64) -> Result<u64, AllocError>
+        requires free { thing_at self.old made ≡ None }
+        requires enough { HasPermits (thing_at self.old name.now) n }
+        ensures ok { IfOk result (λ place. SplitsTo name.now made n (thing_at self.old) (thing_at self.new) place) }
         ensures err { OnErr result (AreSame self.old self.new) }
     {
-        match self.tokens.insert(name.copy(), Token::ended()) {
-            Ok(None) => Ok(()),
-            Ok(Some(token)) => {
-                token.lose();
-                Ok(())
-            }
-            Err(failed) => {
-                let (_, token) = failed.value;
-                token.lose();
-                Err(AllocError)
-            }
-        }
+        let mut permit = self.take_out(name);
+        let place = permit.of();
+        let added = self.add_part(&mut permit, made, n);
+        self.put_back(name, permit);
+        added?;
+        Ok(place)
     }
 
-    /// Gives a name that is no object its meaning.
-    pub(crate) fn set(&mut self, name: &Name, token: Token)
-        requires live { IsSome (thing_at self.old name.now) }
-        requires no_object { is_object (thing_at self.old name.now) ≡ false }
-        ensures { Updated (thing_at self.old) (thing_at self.new) name.now (Some (thing_of token)) }
+    /// Takes the permit with this name out of the table. A request that has ended is in its place.
+    fn take_out(&mut self, name: &Name) -> Holding
+        requires { IsOk (held_as Permit (thing_at self.old name.now)) }
+        ensures permit { held_as Permit (thing_at self.old name.now) ≡ Ok result }
+        ensures updated { Updated (thing_at self.old) (thing_at self.new) name.now (Some (thing_of ended)) }
     {
-        let slot = self.tokens.get_mut(name).unwrap();
-        mem::replace(slot, token).lose();
+        let boxed = self.tokens.get_mut(name).unwrap();
+        boxed.take().into_permit()
     }
 
-    /// Ends a name that is no object.
-    pub(crate) fn forget(&mut self, name: &Name)
-        requires { is_object (thing_at self.old name.now) ≡ false }
-        ensures { Updated (thing_at self.old) (thing_at self.new) name.now None }
+    /// Puts a permit back into the table, in the place of a request that has ended.
+    fn put_back(&mut self, name: &Name, permit: Holding)
+        requires { thing_at self.old name.now ≡ Some (thing_of ended) }
+        ensures { Updated (thing_at self.old) (thing_at self.new) name.now (Some (things.Holding permit)) }
     {
-        if let Some(token) = self.remove(name) {
-            token.lose();
-        }
+        let boxed = self.tokens.get_mut(name).unwrap();
+        boxed.fill(Token::of_holding(permit));
     }
 
     /// Ends a name that is no object, and answers what it was.
@@ -148,7 +214,8 @@ impl Names {
         ensures before { option_map thing_of result ≡ thing_at self.old name.now }
         ensures updated { Updated (thing_at self.old) (thing_at self.new) name.now None }
     {
-        self.tokens.remove(name)
+        let token = self.tokens.remove(name)?;
+        Some(token.into_token())
     }
 
     /// Polls what a name is, and answers the place of its object and the reply. None where the name isn't live.
@@ -164,11 +231,11 @@ impl Names {
         ensures some { IfSome result (λ polled. PollsName name.now waker.0 (thing_at self.old) (thing_at self.new) objects.old.items objects.new.items polled.0 polled.1) }
     {
         match self.tokens.get_mut(name) {
-            Some(slot) => {
-                let token = mem::replace(slot, Token::ended());
+            Some(boxed) => {
+                let token = boxed.take();
                 let place = token.place();
                 let (token, reply) = token.poll(objects, waker, steps);
-                mem::replace(slot, token).lose();
+                boxed.fill(token);
                 Some((place, reply))
             }
             None => {
@@ -189,25 +256,12 @@ impl Names {
         requires fits { (thing : Thing) → thing_at self.old name.now ≡ Some thing → IsFit objects.old.items thing }
         ensures { Downgrades name.now (thing_at self.old) (thing_at self.new) objects.old.items objects.new.items result }
     {
-        let slot = self.tokens.get_mut(name).unwrap();
-        let writer = mem::replace(slot, Token::ended()).into_writer();
+        let boxed = self.tokens.get_mut(name).unwrap();
+        let writer = boxed.take().into_writer();
         let place = writer.of();
         let reader = writer.downgrade_at(&mut objects[place as usize], steps);
-        mem::replace(slot, Token::of_holding(reader)).lose();
+        boxed.fill(Token::of_holding(reader));
         place
-    }
-
-    /// Takes `n` permits out of the permit with this name, if it has as many.
-    pub(crate) fn split_off(&mut self, name: &Name, n: u64) -> Option<Holding>
-        requires { IsOk (held_as Permit (thing_at self.old name.now)) }
-        ensures some { IfSome result (λ part. SplitsOff name.now n (thing_at self.old) (thing_at self.new) part) }
-        ensures none { IfNone result (FallsShort name.now n (thing_at self.old) (thing_at self.new)) }
-    {
-        let slot = self.tokens.get_mut(name).unwrap();
-        let mut permit = mem::replace(slot, Token::ended()).into_permit();
-        let part = permit.split(n);
-        mem::replace(slot, Token::of_holding(permit)).lose();
-        part
     }
 
     /// Adds a permit to the one with this name.
@@ -215,10 +269,10 @@ impl Names {
         requires { CanGrow (thing_at self.old name.now) more }
         ensures { Grows name.now (thing_at self.old) (thing_at self.new) more }
     {
-        let slot = self.tokens.get_mut(name).unwrap();
-        let mut permit = mem::replace(slot, Token::ended()).into_permit();
+        let boxed = self.tokens.get_mut(name).unwrap();
+        let mut permit = boxed.take().into_permit();
         permit.join(more);
-        mem::replace(slot, Token::of_holding(permit)).lose();
+        boxed.fill(Token::of_holding(permit));
     }
 
     /// Loses every token.
@@ -226,6 +280,7 @@ impl Names {
         let Names {
             objects: _,
             mut tokens,
+            alloc: _,
         } = self;
         while let Some((_, token)) = tokens.pop_first() {
             token.lose();

@@ -48,7 +48,6 @@ impl Player {
     }
 
     /// Runs one line of a script.
-    #[tactic(auto, using(crate::proofs::StoodLawful::keeps_laws))]
     pub fn step<L: Ledger>(
         &mut self,
         call: &Call,
@@ -63,40 +62,57 @@ impl Player {
         ensures succeeds { TakesNoMemory call.now → IsOk result }
         ensures lawful { KeepsLaws self.new }
     {
+        self.run(call.copy(), steps)
+    }
+
+    /// Runs one line of a script. A name that it makes is moved into the table.
+    #[tactic(auto, using(crate::proofs::StoodLawful::keeps_laws))]
+    pub(crate) fn run<L: Ledger>(
+        &mut self,
+        call: Call,
+        steps: &mut Steps<L>,
+    ) -> Result<Reply, AllocError>
+        requires quiet { wakers_left self.old ≡ [] }
+        requires readers { ForReaders call }
+        ensures follows { IfOk result (λ reply. Follows (step call) self.old reply self.new) }
+        ensures err { OnErr result (Stays self.old self.new × (wakers_left self.new ≡ [])) }
+        ensures succeeds { TakesNoMemory call → IsOk result }
+        ensures lawful { KeepsLaws self.new }
+    {
         match call {
-            Call::Sem { made, n } => self.table.make(self.alloc, made, New::Semaphore(*n)),
+            Call::Sem { made, n } => self.table.make(self.alloc, made, New::Semaphore(n)),
             Call::Mutex { made } => self.table.make(self.alloc, made, New::Mutex),
             Call::Rw { made, n } => {
-                let max = most_readers(*n);
+                let max = most_readers(n);
                 self.table.make(self.alloc, made, New::ReaderWriter(max))
             }
             Call::Ask { made, of, n, waker } => {
                 self.table
-                    .ask(Want::Permits(*n), made, of, Waker(*waker), steps)
+                    .ask(Want::Permits(n), made, &of, Waker(waker), steps)
             }
             Call::Lock { made, of, waker } => {
-                self.table.ask(Want::Lock, made, of, Waker(*waker), steps)
+                self.table.ask(Want::Lock, made, &of, Waker(waker), steps)
             }
             Call::Read { made, of, waker } => {
-                self.table.ask(Want::Read, made, of, Waker(*waker), steps)
+                self.table.ask(Want::Read, made, &of, Waker(waker), steps)
             }
             Call::Write { made, of, waker } => {
-                self.table.ask(Want::Write, made, of, Waker(*waker), steps)
+                self.table.ask(Want::Write, made, &of, Waker(waker), steps)
             }
-            Call::Poll { name, waker } => Ok(self.table.poll(name, Waker(*waker), steps)),
-            Call::Drop { name } => Ok(self.table.drop_name(name, steps)),
-            Call::Try { made, of, n } => self.table.try_for(Want::Permits(*n), made, of),
-            Call::TryLock { made, of } => self.table.try_for(Want::Lock, made, of),
-            Call::TryRead { made, of } => self.table.try_for(Want::Read, made, of),
-            Call::TryWrite { made, of } => self.table.try_for(Want::Write, made, of),
-            Call::Release { of, n } => Ok(self.table.release(of, *n, steps)),
-            Call::Reduce { of, n } => self.table.reduce(of, *n, steps),
-            Call::Drain { of, n } => Ok(self.table.drain(of, *n)),
-            Call::Downgrade { name } => Ok(self.table.downgrade(name, steps)),
-            Call::Status { name } => Ok(self.table.status(name)),
-            Call::Forget { name } => Ok(self.table.forget(name)),
-            Call::Split { name, made, n } => self.table.split(name, made, *n),
-            Call::Merge { kept, spent } => Ok(self.table.merge(kept, spent)),
+            Call::Poll { name, waker } => Ok(self.table.poll(&name, Waker(waker), steps)),
+            Call::Drop { name } => Ok(self.table.drop_name(&name, steps)),
+            Call::Try { made, of, n } => self.table.try_for(Want::Permits(n), made, &of),
+            Call::TryLock { made, of } => self.table.try_for(Want::Lock, made, &of),
+            Call::TryRead { made, of } => self.table.try_for(Want::Read, made, &of),
+            Call::TryWrite { made, of } => self.table.try_for(Want::Write, made, &of),
+            Call::Release { of, n } => Ok(self.table.release(&of, n, steps)),
+            Call::Reduce { of, n } => self.table.reduce(&of, n, steps),
+            Call::Drain { of, n } => Ok(self.table.drain(&of, n)),
+            Call::Downgrade { name } => Ok(self.table.downgrade(&name, steps)),
+            Call::Status { name } => Ok(self.table.status(&name)),
+            Call::Forget { name } => Ok(self.table.forget(&name)),
+            Call::Split { name, made, n } => self.table.split(&name, made, n),
+            Call::Merge { kept, spent } => Ok(self.table.merge(&kept, &spent)),
         }
     }
 

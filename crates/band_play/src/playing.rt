@@ -84,7 +84,7 @@ impl Playing {
             let Some(call) = self.held.take_call(end) else {
                 return Ok(Some(self.lines + 1));
             };
-            tell_call(&mut self.player, &call, &mut self.text, steps)?;
+            tell_call(&mut self.player, call, &mut self.text, steps)?;
             self.lines += 1;
             rest = after;
         }

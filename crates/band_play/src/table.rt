@@ -4,15 +4,13 @@ ghost use Rattle.band_balance.specs.Object.{Permit, Write};
 ghost use Rattle.band_play.specs.Step.{making, asking, polling, dropping, trying, releasing, reducing, draining, showing, forgetting, splitting, merging, downgrading};
 ghost use Rattle.band_play.specs.State.{standing};
 ghost use Rattle.band_play.specs.Names.{thing_at};
-ghost use Rattle.band_play.specs.Token.{thing_of};
-ghost use Rattle.band_play.specs.Moves.{AsksFirst, IsOffered, PollsName, IsFit, mode_of, size_for, object_of, offering, held_as, SplitsOff, FallsShort, mergeable, CanGrow, Grows, Downgrades, IsForReaders, object_made};
+ghost use Rattle.band_play.specs.Moves.{PollsName, IsFit, mode_of, size_for, object_of, offering, held_as, mergeable, CanGrow, Grows, Downgrades, IsForReaders, object_made};
 ghost use Rattle.band_play.specs.Kept.{StandsFor, IsSound, Follows, Stays, Remains, wakes_left};
 
 use crate::names::Names;
 use crate::object::{New, Object, Want};
-use crate::token::Token;
 use crate::{Name, Reply};
-use band_base::{Poll, Steps, Waker};
+use band_base::{Steps, Waker};
 use band_sem::{ReduceError, Refusal};
 use std::alloc::{AllocError, Global};
 use std::sync::ledger::Ledger;
@@ -50,34 +48,6 @@ fn mergeable(names: &Names, kept: &Name, spent: &Name) -> Result<u64, Refusal>
     }
 }
 
-/// Polls a new request of the object at a place.
-fn first_poll<L: Ledger>(
-    objects: &mut Vec<Object>,
-    place: u64,
-    want: Want,
-    waker: Waker,
-    steps: &mut Steps<L>,
-) -> Result<(Token, Reply), AllocError>
-    requires there { place < length objects.old.items }
-    requires offered { IsOffered objects.old.items place want }
-    ensures ok { IfOk result (λ made. AsksFirst place want waker.0 objects.old.items (thing_of made.0) made.1 objects.new.items) }
-    ensures err { OnErr result (objects.new.items ≡ objects.old.items) }
-{
-    let object = &mut objects[place as usize];
-    let mut request = object.request(want);
-    match request.poll_once(object, waker, steps) {
-        Ok(Poll::Ready(holding)) => {
-            request.lose();
-            Ok((Token::of_holding(holding), Reply::Ready))
-        }
-        Ok(Poll::Pending) => Ok((Token::of_request(request), Reply::Pending)),
-        Err(_) => {
-            request.lose();
-            Err(AllocError)
-        }
-    }
-}
-
 impl Table {
     /// No name and no object.
     pub(crate) fn new(alloc: Global) -> Table
@@ -93,15 +63,15 @@ impl Table {
     }
 
     /// Makes an object.
-    pub(crate) fn make(&mut self, alloc: Global, made: &Name, new: New) -> Result<Reply, AllocError>
+    pub(crate) fn make(&mut self, alloc: Global, made: Name, new: New) -> Result<Reply, AllocError>
         requires sound { IsSound self.old }
         requires quiet { wakes_left self.old ≡ [] }
         requires readers { IsForReaders new }
-        ensures follows { IfOk result (λ reply. Follows (making made.now (object_made new)) self.old reply self.new) }
+        ensures follows { IfOk result (λ reply. Follows (making made (object_made new)) self.old reply self.new) }
         ensures err { OnErr result (Stays self.old self.new) }
         ensures sound { IsSound self.new }
     {
-        if self.names.is_live(made) {
+        if self.names.is_live(&made) {
             return Ok(Reply::Refused(Refusal::Taken));
         }
         let place = self.objects.len() as u64;
@@ -115,14 +85,14 @@ impl Table {
     pub(crate) fn ask<L: Ledger>(
         &mut self,
         want: Want,
-        made: &Name,
+        made: Name,
         of: &Name,
         waker: Waker,
         steps: &mut Steps<L>,
     ) -> Result<Reply, AllocError>
         requires sound { IsSound self.old }
         requires quiet { wakes_left self.old ≡ [] }
-        ensures follows { IfOk result (λ reply. Follows (λ state. asking (mode_of want) (size_for want) (standing of.now state) made.now waker.0 state) self.old reply self.new) }
+        ensures follows { IfOk result (λ reply. Follows (λ state. asking (mode_of want) (size_for want) (standing of.now state) made waker.0 state) self.old reply self.new) }
         ensures err { OnErr result (Stays self.old self.new) }
         ensures sound { IsSound self.new }
     {
@@ -130,21 +100,13 @@ impl Table {
             Ok(place) => place,
             Err(refusal) => return Ok(Reply::Refused(refusal)),
         };
-        if self.names.is_live(made) {
+        if self.names.is_live(&made) {
             return Ok(Reply::Refused(Refusal::Taken));
         }
-        self.names.reserve(made)?;
-        match first_poll(&mut self.objects, place, want, waker, steps) {
-            Ok((token, reply)) => {
-                self.names.set(made, token);
-                self.last = place;
-                Ok(reply)
-            }
-            Err(error) => {
-                self.names.forget(made);
-                Err(error)
-            }
-        }
+        let objects = &mut self.objects;
+        let reply = self.names.ask(objects, place, want, made, waker, steps)?;
+        self.last = place;
+        Ok(reply)
     }
 
     /// Polls what a name is.
@@ -187,15 +149,10 @@ impl Table {
     }
 
     /// Takes permits or a guard without waiting.
-    pub(crate) fn try_for(
-        &mut self,
-        want: Want,
-        made: &Name,
-        of: &Name,
-    ) -> Result<Reply, AllocError>
+    pub(crate) fn try_for(&mut self, want: Want, made: Name, of: &Name) -> Result<Reply, AllocError>
         requires sound { IsSound self.old }
         requires quiet { wakes_left self.old ≡ [] }
-        ensures follows { IfOk result (λ reply. Follows (λ state. trying (mode_of want) (size_for want) (standing of.now state) made.now state) self.old reply self.new) }
+        ensures follows { IfOk result (λ reply. Follows (λ state. trying (mode_of want) (size_for want) (standing of.now state) made state) self.old reply self.new) }
         ensures err { OnErr result (Stays self.old self.new) }
         ensures sound { IsSound self.new }
     {
@@ -203,16 +160,14 @@ impl Table {
             Ok(place) => place,
             Err(refusal) => return Ok(Reply::Refused(refusal)),
         };
-        if self.names.is_live(made) {
+        if self.names.is_live(&made) {
             return Ok(Reply::Refused(Refusal::Taken));
         }
         if !self.objects[place as usize].would_serve(want) {
             return Ok(Reply::Nothing);
         }
-        self.names.reserve(made)?;
         let object = &mut self.objects[place as usize];
-        let holding = object.try_take(want).unwrap();
-        self.names.set(made, Token::of_holding(holding));
+        self.names.take(object, want, made)?;
         self.last = place;
         Ok(Reply::Done)
     }
@@ -316,31 +271,24 @@ impl Table {
     }
 
     /// Moves permits of the one that a name is to a new one.
-    pub(crate) fn split(&mut self, name: &Name, made: &Name, n: u64) -> Result<Reply, AllocError>
+    pub(crate) fn split(&mut self, name: &Name, made: Name, n: u64) -> Result<Reply, AllocError>
         requires sound { IsSound self.old }
         requires quiet { wakes_left self.old ≡ [] }
-        ensures follows { IfOk result (λ reply. Follows (λ state. splitting (standing name.now state) name.now made.now n state) self.old reply self.new) }
+        ensures follows { IfOk result (λ reply. Follows (λ state. splitting (standing name.now state) name.now made n state) self.old reply self.new) }
         ensures err { OnErr result (Stays self.old self.new) }
         ensures sound { IsSound self.new }
     {
         if let Err(refusal) = self.names.permit_at(name) {
             return Ok(Reply::Refused(refusal));
         }
-        if self.names.is_live(made) {
+        if self.names.is_live(&made) {
             return Ok(Reply::Refused(Refusal::Taken));
         }
-        self.names.reserve(made)?;
-        match self.names.split_off(name, n) {
-            Some(part) => {
-                self.last = part.of();
-                self.names.set(made, Token::of_holding(part));
-                Ok(Reply::Done)
-            }
-            None => {
-                self.names.forget(made);
-                Ok(Reply::Nothing)
-            }
+        if self.names.permits(name) < n {
+            return Ok(Reply::Nothing);
         }
+        self.last = self.names.split(name, made, n)?;
+        Ok(Reply::Done)
     }
 
     /// Moves all permits of the second name to the first.

@@ -1,17 +1,19 @@
 //! Requests and holdings, as the table of names stores them.
-ghost use Rattle.std.specs.Prelude.{◌≡◌, IsOk, Some, Ok, MatchResult, Err};
+ghost use Rattle.std.specs.Prelude.{◌≡◌, ◌<◌, IsOk, IfOk, OnErr, Some, Ok, MatchResult, Err, length};
 ghost use Rattle.band_balance.specs.Object.{Permit, Write};
-ghost use Rattle.band_play.specs.Objects.{request_of, holding_of};
+ghost use Rattle.band_play.specs.Objects.{HoldingState, request_of, holding_of};
+ghost use Rattle.band_play.specs.Moves.{AsksFirst, IsOffered};
 ghost use Rattle.band_play.specs.Token as tokens;
 ghost use Rattle.band_play.specs.Token.{ended, opened_of, thing_of};
 
 use crate::Reply;
 use crate::holding::{AnyHolding, Holding};
-use crate::object::Object;
+use crate::object::{Object, Want};
 use crate::request::{AnyRequest, Request};
 use band_base::{Poll, Steps, Waker};
 use band_lock::{LockGuard, LockRequest, ReadAccess, ReadRequest, WriteAccess, WriteRequest};
 use band_sem::{Acquire, Refusal, SemaphorePermit};
+use std::alloc::AllocError;
 use std::marker::Model;
 use std::sync::ledger::Ledger;
 
@@ -61,6 +63,34 @@ fn opened_holding(any: AnyHolding) -> Opened
 {
     let holding = Holding { any };
     Opened::Holding(holding)
+}
+
+/// Polls a new request of the object at a place.
+pub(crate) fn first_poll<L: Ledger>(
+    objects: &mut Vec<Object>,
+    place: u64,
+    want: Want,
+    waker: Waker,
+    steps: &mut Steps<L>,
+) -> Result<(Token, Reply), AllocError>
+    requires there { place < length objects.old.items }
+    requires offered { IsOffered objects.old.items place want }
+    ensures ok { IfOk result (λ made. AsksFirst place want waker.0 objects.old.items (thing_of made.0) made.1 objects.new.items) }
+    ensures err { OnErr result (objects.new.items ≡ objects.old.items) }
+{
+    let object = &mut objects[place as usize];
+    let mut request = object.request(want);
+    match request.poll_once(object, waker, steps) {
+        Ok(Poll::Ready(holding)) => {
+            request.lose();
+            Ok((Token::of_holding(holding), Reply::Ready))
+        }
+        Ok(Poll::Pending) => Ok((Token::of_request(request), Reply::Pending)),
+        Err(_) => {
+            request.lose();
+            Err(AllocError)
+        }
+    }
 }
 
 impl Token {
@@ -195,6 +225,17 @@ impl Token {
         match &self.any {
             AnyToken::SemaphorePermit(permit) => Ok(permit.of()),
             _ => Err(Refusal::Kind),
+        }
+    }
+
+    /// How many permits this has.
+    pub(crate) fn permits(&self) -> u64
+        requires { IsOk (held_as Permit (Some (thing_of self.now))) }
+        ensures { (permit : HoldingState) → held_as Permit (Some (thing_of self.now)) ≡ Ok permit → result ≡ permit.count }
+    {
+        match &self.any {
+            AnyToken::SemaphorePermit(permit) => permit.permits(),
+            _ => unreachable!(),
         }
     }
 

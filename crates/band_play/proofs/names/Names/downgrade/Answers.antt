@@ -16,10 +16,10 @@ use Rattle.band_play.proofs.names.Names.downgrade.Goals as goal
 
 pub index_mut-requires : goal.index_mut-requires
 index_mut-requires g c =
-    let was : at_name c.args.self.now.tokens c.args.name.now ≡ Some c.replace.result = search rules in
-    let found = token_there c.args.self.now c.args.name.now c.replace.result was in
+    let was : at_name c.args.self.now.tokens c.args.name.now ≡ Some c.take.result = search rules in
+    let found = token_there c.args.self.now c.args.name.now c.take.result was in
     let writer = c.into_writer-writer.result in
-    let is : Some (thing_of c.replace.result) ≡ Some (things.Holding writer) = (permit_from Write (Some (thing_of c.replace.result)) writer c.into_writer-writer.ensures).0 in
+    let is : Some (thing_of c.take.result) ≡ Some (things.Holding writer) = (permit_from Write (Some (thing_of c.take.result)) writer c.into_writer-writer.ensures).0 in
     let known = permit_there (slice_get c.args.objects.now.items writer.of) writer (c.requires.fits (things.Holding writer) (found ∙ is)) in
     let at : c.of-place.result ≡ writer.of = c.of-place.ensures in
     let within : writer.of < length c.args.objects.now.items = slice_get_within c.args.objects.now.items writer.of known.0 known.1 in
@@ -27,10 +27,10 @@ index_mut-requires g c =
 
 pub downgrade_at-reader-requires-clause-number : goal.downgrade_at-reader-requires-clause-number
 downgrade_at-reader-requires-clause-number g c =
-    let was : at_name c.args.self.now.tokens c.args.name.now ≡ Some c.replace.result = search rules in
-    let found = token_there c.args.self.now c.args.name.now c.replace.result was in
+    let was : at_name c.args.self.now.tokens c.args.name.now ≡ Some c.take.result = search rules in
+    let found = token_there c.args.self.now c.args.name.now c.take.result was in
     let writer = c.into_writer-writer.result in
-    let is : Some (thing_of c.replace.result) ≡ Some (things.Holding writer) = (permit_from Write (Some (thing_of c.replace.result)) writer c.into_writer-writer.ensures).0 in
+    let is : Some (thing_of c.take.result) ≡ Some (things.Holding writer) = (permit_from Write (Some (thing_of c.take.result)) writer c.into_writer-writer.ensures).0 in
     let known = permit_there (slice_get c.args.objects.now.items writer.of) writer (c.requires.fits (things.Holding writer) (found ∙ is)) in
     let at : c.of-place.result ≡ writer.of = c.of-place.ensures in
     let within : writer.of < length c.args.objects.now.items = slice_get_within c.args.objects.now.items writer.of known.0 known.1 in
@@ -41,10 +41,10 @@ downgrade_at-reader-requires-clause-number g c =
 
 pub downgrade_at-reader-requires-clause-held : goal.downgrade_at-reader-requires-clause-held
 downgrade_at-reader-requires-clause-held g c =
-    let was : at_name c.args.self.now.tokens c.args.name.now ≡ Some c.replace.result = search rules in
-    let found = token_there c.args.self.now c.args.name.now c.replace.result was in
+    let was : at_name c.args.self.now.tokens c.args.name.now ≡ Some c.take.result = search rules in
+    let found = token_there c.args.self.now c.args.name.now c.take.result was in
     let writer = c.into_writer-writer.result in
-    let is : Some (thing_of c.replace.result) ≡ Some (things.Holding writer) = (permit_from Write (Some (thing_of c.replace.result)) writer c.into_writer-writer.ensures).0 in
+    let is : Some (thing_of c.take.result) ≡ Some (things.Holding writer) = (permit_from Write (Some (thing_of c.take.result)) writer c.into_writer-writer.ensures).0 in
     let known = permit_there (slice_get c.args.objects.now.items writer.of) writer (c.requires.fits (things.Holding writer) (found ∙ is)) in
     let at : c.of-place.result ≡ writer.of = c.of-place.ensures in
     let within : writer.of < length c.args.objects.now.items = slice_get_within c.args.objects.now.items writer.of known.0 known.1 in
@@ -56,10 +56,10 @@ downgrade_at-reader-requires-clause-held g c =
 
 pub downgrade_at-reader-requires-clause-fits : goal.downgrade_at-reader-requires-clause-fits
 downgrade_at-reader-requires-clause-fits g c =
-    let was : at_name c.args.self.now.tokens c.args.name.now ≡ Some c.replace.result = search rules in
-    let found = token_there c.args.self.now c.args.name.now c.replace.result was in
+    let was : at_name c.args.self.now.tokens c.args.name.now ≡ Some c.take.result = search rules in
+    let found = token_there c.args.self.now c.args.name.now c.take.result was in
     let writer = c.into_writer-writer.result in
-    let is : Some (thing_of c.replace.result) ≡ Some (things.Holding writer) = (permit_from Write (Some (thing_of c.replace.result)) writer c.into_writer-writer.ensures).0 in
+    let is : Some (thing_of c.take.result) ≡ Some (things.Holding writer) = (permit_from Write (Some (thing_of c.take.result)) writer c.into_writer-writer.ensures).0 in
     let known = permit_there (slice_get c.args.objects.now.items writer.of) writer (c.requires.fits (things.Holding writer) (found ∙ is)) in
     let at : c.of-place.result ≡ writer.of = c.of-place.ensures in
     let within : writer.of < length c.args.objects.now.items = slice_get_within c.args.objects.now.items writer.of known.0 known.1 in
@@ -70,19 +70,19 @@ downgrade_at-reader-requires-clause-fits g c =
 
 pub invariant_of-self : goal.invariant_of-self
 invariant_of-self g c =
-    let was : at_name c.args.self.now.tokens c.args.name.now ≡ Some c.replace.result = search rules in
+    let was : at_name c.args.self.now.tokens c.args.name.now ≡ Some c.take.result = search rules in
     record {
       apart =
-          tokens_apart c.args.self.now c.args.name.now (c.get_mut.follows.lender c.replace-2.new.dest) (Some c.replace-2.new.dest) (no_object c.args.self.now c.args.name.now c.replace.result was)
-          ((c.get_mut.follows.holds c.replace-2.new.dest).3 (search rules));
+          tokens_apart c.args.self.now c.args.name.now (c.get_mut.follows.lender c.fill.new.self) (Some c.fill.new.self) (no_object c.args.self.now c.args.name.now c.take.result was)
+          ((c.get_mut.follows.holds c.fill.new.self).3 (search rules));
     }
 
 pub returns : goal.returns
 returns g c =
-    let was : at_name c.args.self.now.tokens c.args.name.now ≡ Some c.replace.result = search rules in
-    let found = token_there c.args.self.now c.args.name.now c.replace.result was in
+    let was : at_name c.args.self.now.tokens c.args.name.now ≡ Some c.take.result = search rules in
+    let found = token_there c.args.self.now c.args.name.now c.take.result was in
     let writer = c.into_writer-writer.result in
-    let is : Some (thing_of c.replace.result) ≡ Some (things.Holding writer) = (permit_from Write (Some (thing_of c.replace.result)) writer c.into_writer-writer.ensures).0 in
+    let is : Some (thing_of c.take.result) ≡ Some (things.Holding writer) = (permit_from Write (Some (thing_of c.take.result)) writer c.into_writer-writer.ensures).0 in
     let known = permit_there (slice_get c.args.objects.now.items writer.of) writer (c.requires.fits (things.Holding writer) (found ∙ is)) in
     let at : c.of-place.result ≡ writer.of = c.of-place.ensures in
     let within : writer.of < length c.args.objects.now.items = slice_get_within c.args.objects.now.items writer.of known.0 known.1 in
@@ -100,7 +100,7 @@ returns g c =
         lawful = subst (λ (s : ObjectState). IsSteady s) c.downgrade_at-reader.ensures.state c.downgrade_at-reader.ensures.steady;
       };
       updated =
-          token_changed c.args.self.now c.args.name.now (c.get_mut.follows.lender c.replace-2.new.dest) _ (no_object c.args.self.now c.args.name.now c.replace.result was)
-          (subst (λ (t : TokenState). Updates (slice_cmp nat_cmp) c.args.self.now.tokens (c.get_mut.follows.lender c.replace-2.new.dest) c.args.name.now (Some t)) (c.replace-2.ensures.after ∙ c.of_holding.ensures ∙ ap Holding c.downgrade_at-reader.ensures.reader)
-          ((c.get_mut.follows.holds c.replace-2.new.dest).3 (search rules)));
+          token_changed c.args.self.now c.args.name.now (c.get_mut.follows.lender c.fill.new.self) _ (no_object c.args.self.now c.args.name.now c.take.result was)
+          (subst (λ (t : TokenState). Updates (slice_cmp nat_cmp) c.args.self.now.tokens (c.get_mut.follows.lender c.fill.new.self) c.args.name.now (Some t)) (c.fill.ensures ∙ c.of_holding.ensures ∙ ap Holding c.downgrade_at-reader.ensures.reader)
+          ((c.get_mut.follows.holds c.fill.new.self).3 (search rules)));
     }

@@ -11,22 +11,22 @@ use Rattle.band_play.proofs.names.Names.grow.Goals as goal
 
 pub invariant_of-self : goal.invariant_of-self
 invariant_of-self c =
-    let was : at c.args.self.now.tokens c.args.name.now ≡ Some c.replace.result = search rules in
+    let was : at c.args.self.now.tokens c.args.name.now ≡ Some c.take.result = search rules in
     record {
       apart =
-          tokens_apart c.args.self.now c.args.name.now (c.get_mut.follows.lender c.replace-2.new.dest) (Some c.replace-2.new.dest) (no_object c.args.self.now c.args.name.now c.replace.result was)
-          ((c.get_mut.follows.holds c.replace-2.new.dest).3 (search rules));
+          tokens_apart c.args.self.now c.args.name.now (c.get_mut.follows.lender c.fill.new.self) (Some c.fill.new.self) (no_object c.args.self.now c.args.name.now c.take.result was)
+          ((c.get_mut.follows.holds c.fill.new.self).3 (search rules));
     }
 
 pub returns : goal.returns
 returns c =
-    let was : at c.args.self.now.tokens c.args.name.now ≡ Some c.replace.result = search rules in
-    let left : c.replace-2.new.dest ≡ Holding (record c.into_permit-permit.result { count = c.into_permit-permit.result.count + c.args.more.count }) = c.replace-2.ensures.after ∙ c.of_holding.ensures ∙ ap Holding c.join.ensures in
+    let was : at c.args.self.now.tokens c.args.name.now ≡ Some c.take.result = search rules in
+    let left : c.fill.new.self ≡ Holding (record c.into_permit-permit.result { count = c.into_permit-permit.result.count + c.args.more.count }) = c.fill.ensures ∙ c.of_holding.ensures ∙ ap Holding c.join.ensures in
     record {
       whole = c.into_permit-permit.result;
-      was = ap (held_as Permit) (token_there c.args.self.now c.args.name.now c.replace.result was) ∙ c.into_permit-permit.ensures;
+      was = ap (held_as Permit) (token_there c.args.self.now c.args.name.now c.take.result was) ∙ c.into_permit-permit.ensures;
       updated =
-          token_changed c.args.self.now c.args.name.now (c.get_mut.follows.lender c.replace-2.new.dest) _ (no_object c.args.self.now c.args.name.now c.replace.result was)
-          (subst (λ (t : TokenState). Updates (slice_cmp nat_cmp) c.args.self.now.tokens (c.get_mut.follows.lender c.replace-2.new.dest) c.args.name.now (Some t)) left
-          ((c.get_mut.follows.holds c.replace-2.new.dest).3 (search rules)));
+          token_changed c.args.self.now c.args.name.now (c.get_mut.follows.lender c.fill.new.self) _ (no_object c.args.self.now c.args.name.now c.take.result was)
+          (subst (λ (t : TokenState). Updates (slice_cmp nat_cmp) c.args.self.now.tokens (c.get_mut.follows.lender c.fill.new.self) c.args.name.now (Some t)) left
+          ((c.get_mut.follows.holds c.fill.new.self).3 (search rules)));
     }

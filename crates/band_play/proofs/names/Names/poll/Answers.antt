@@ -10,31 +10,31 @@ use Rattle.band_play.proofs.names.Names.poll.Goals as goal
 
 pub poll-token-requires : goal.poll-token-requires
 poll-token-requires g c =
-    let was : at c.args.self.now.tokens c.args.name.now ≡ Some c.replace-token.result = search rules in
-    c.requires (thing_of c.replace-token.result) (token_there c.args.self.now c.args.name.now c.replace-token.result was)
+    let was : at c.args.self.now.tokens c.args.name.now ≡ Some c.take-token.result = search rules in
+    c.requires (thing_of c.take-token.result) (token_there c.args.self.now c.args.name.now c.take-token.result was)
 
 pub invariant_of-self : goal.invariant_of-self
 invariant_of-self g c =
-    let was : at c.args.self.now.tokens c.args.name.now ≡ Some c.replace-token.result = search rules in
+    let was : at c.args.self.now.tokens c.args.name.now ≡ Some c.take-token.result = search rules in
     record {
       apart =
-          tokens_apart c.args.self.now c.args.name.now (c.get_mut.follows.lender c.replace.new.dest) (Some c.replace.new.dest) (no_object c.args.self.now c.args.name.now c.replace-token.result was)
-          ((c.get_mut.follows.holds c.replace.new.dest).3 (search rules));
+          tokens_apart c.args.self.now c.args.name.now (c.get_mut.follows.lender c.fill.new.self) (Some c.fill.new.self) (no_object c.args.self.now c.args.name.now c.take-token.result was)
+          ((c.get_mut.follows.holds c.fill.new.self).3 (search rules));
     }
 
 pub returns-in-Some-clause-some : goal.returns-in-Some-clause-some
 returns-in-Some-clause-some g c =
-    let was : at c.args.self.now.tokens c.args.name.now ≡ Some c.replace-token.result = search rules in
+    let was : at c.args.self.now.tokens c.args.name.now ≡ Some c.take-token.result = search rules in
     record {
-      found = thing_of c.replace-token.result;
+      found = thing_of c.take-token.result;
       left = thing_of c.poll-token.result.0;
-      was = token_there c.args.self.now c.args.name.now c.replace-token.result was;
+      was = token_there c.args.self.now c.args.name.now c.take-token.result was;
       at = c.place-place.ensures;
       polled = c.poll-token.ensures;
       updated =
-          token_changed c.args.self.now c.args.name.now (c.get_mut.follows.lender c.replace.new.dest) (Some c.poll-token.result.0) (no_object c.args.self.now c.args.name.now c.replace-token.result was)
-          (subst (λ w. Updates (slice_cmp nat_cmp) c.args.self.now.tokens (c.get_mut.follows.lender c.replace.new.dest) c.args.name.now (Some w)) c.replace.ensures.after
-          ((c.get_mut.follows.holds c.replace.new.dest).3 (search rules)));
+          token_changed c.args.self.now c.args.name.now (c.get_mut.follows.lender c.fill.new.self) (Some c.poll-token.result.0) (no_object c.args.self.now c.args.name.now c.take-token.result was)
+          (subst (λ w. Updates (slice_cmp nat_cmp) c.args.self.now.tokens (c.get_mut.follows.lender c.fill.new.self) c.args.name.now (Some w)) c.fill.ensures
+          ((c.get_mut.follows.holds c.fill.new.self).3 (search rules)));
     }
 
 pub returns-in_ok-place-in-None-clause-some : goal.returns-in_ok-place-in-None-clause-some

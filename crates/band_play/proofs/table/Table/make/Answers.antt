@@ -5,7 +5,7 @@ use Rattle.band_play.proofs.TableLemmas.{make_takes, make_done, make_sound, stay
 use Rattle.band_play.proofs.table.Table.make.Goals as goal
 
 pub returns-then-is_live-clause-follows : goal.returns-then-is_live-clause-follows
-returns-then-is_live-clause-follows c = make_takes c.args.self.now c.requires.sound c.requires.quiet c.args.made.now (object_made c.args.new) (c.is_live.ensures.0 c.if-is_live.true)
+returns-then-is_live-clause-follows c = make_takes c.args.self.now c.requires.sound c.requires.quiet c.args.made (object_made c.args.new) (c.is_live.ensures.0 c.if-is_live.true)
 
 pub returns-in_err-reserve-clause-sound : goal.returns-in_err-reserve-clause-sound
 returns-in_err-reserve-clause-sound c = sound_same c.args.self.now _ c.requires.sound (λ name. refl) c.in_err-reserve.ensures.items refl
@@ -23,14 +23,14 @@ pub returns-clause-follows : goal.returns-clause-follows
 returns-clause-follows c =
     let place : c.len-place.result ≡ length c.args.self.now.objects.items = omega arith in
     make_done c.args.self.now c.requires.sound c.requires.quiet (record { names = c.add_object.new.self; objects = c.push.new.self; last = c.args.self.now.last })
-    (kind_made c.args.new) c.args.made.now (count_made c.args.new) (starts_steady c.args.new c.len-place.result c.new.result c.new.ensures.start c.new.ensures.steady place) (none_from _ c.is_live.result c.is_live.ensures.1 c.if-is_live.false)
-    (object_placed _ _ c.args.made.now _ _ place c.in_ok-add_object.ensures.ok)
+    (kind_made c.args.new) c.args.made (count_made c.args.new) (starts_steady c.args.new c.len-place.result c.new.result c.new.ensures.start c.new.ensures.steady place) (none_from _ c.is_live.result c.is_live.ensures.1 c.if-is_live.false)
+    (object_placed _ _ c.args.made _ _ place c.in_ok-add_object.ensures.ok)
     (pushed c.args.self.now.objects.items c.reserve.new.self.items c.push.new.self.items c.push.result _ c.new.result (kind_made c.args.new) c.len-place.result (count_made c.args.new) c.push.ensures.items c.unwrap.ensures c.in_ok-reserve.ensures.items c.new.ensures.start place)
 
 pub returns-clause-sound : goal.returns-clause-sound
 returns-clause-sound c =
     let place : c.len-place.result ≡ length c.args.self.now.objects.items = omega arith in
     make_sound c.args.self.now c.requires.sound c.requires.quiet (record { names = c.add_object.new.self; objects = c.push.new.self; last = c.args.self.now.last })
-    (kind_made c.args.new) c.args.made.now (count_made c.args.new) (starts_steady c.args.new c.len-place.result c.new.result c.new.ensures.start c.new.ensures.steady place) (none_from _ c.is_live.result c.is_live.ensures.1 c.if-is_live.false)
-    (object_placed _ _ c.args.made.now _ _ place c.in_ok-add_object.ensures.ok)
+    (kind_made c.args.new) c.args.made (count_made c.args.new) (starts_steady c.args.new c.len-place.result c.new.result c.new.ensures.start c.new.ensures.steady place) (none_from _ c.is_live.result c.is_live.ensures.1 c.if-is_live.false)
+    (object_placed _ _ c.args.made _ _ place c.in_ok-add_object.ensures.ok)
     (pushed c.args.self.now.objects.items c.reserve.new.self.items c.push.new.self.items c.push.result _ c.new.result (kind_made c.args.new) c.len-place.result (count_made c.args.new) c.push.ensures.items c.unwrap.ensures c.in_ok-reserve.ensures.items c.new.ensures.start place)

@@ -10,7 +10,7 @@ use Rattle.band_play.specs.Token.{TokenState, thing_of}
 use Rattle.band_play.specs.Moves.{PollsAs, IsAnswered, kind_at, mode_of, size_for}
 use Rattle.band_play.proofs.Called.{set_itself}
 use Rattle.band_play.proofs.Follow.{want_fits, unmoved, polled_of, ready_answered, pending_answered}
-use Rattle.band_play.proofs.table.first_poll.Goals as goal
+use Rattle.band_play.proofs.token.first_poll.Goals as goal
 
 pub poll_once-requires-clause-fits : goal.poll_once-requires-clause-fits
 poll_once-requires-clause-fits g c =

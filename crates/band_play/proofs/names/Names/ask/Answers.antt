@@ -1,0 +1,24 @@
+use Rattle.std.proofs.Common.{◌≡◌, None, Some, ap}
+use Rattle.band_play.specs.Apart.{at}
+use Rattle.band_play.specs.Names.{is_object}
+use Rattle.band_play.specs.Token.{thing_of}
+use Rattle.band_play.proofs.Updates.{free_of_object, token_set, apart_added, if_ok}
+use Rattle.band_play.proofs.names.Names.ask.Goals as goal
+
+pub invariant_of-self : goal.invariant_of-self
+invariant_of-self g c =
+    let free : at c.args.self.now.objects c.args.name ≡ None = free_of_object c.args.self.now c.args.name (ap is_object c.requires.free) in
+    record {
+      apart =
+          apart_added c.args.self.now c.args.name c.add_request.new.tokens c.add_request.result free
+          (if_ok c.add_request.result c.add_request.ensures.ok (λ reply added. (Some added.token, added.sets))) c.add_request.ensures.same;
+    }
+
+pub returns-clause-ok : goal.returns-clause-ok
+returns-clause-ok g c =
+    let free : at c.args.self.now.objects c.args.name ≡ None = free_of_object c.args.self.now c.args.name (ap is_object c.requires.free) in
+    if_ok c.add_request.result c.add_request.ensures.ok (λ reply added. record {
+      left = thing_of added.token;
+      asked = added.asked;
+      updated = token_set c.args.self.now c.args.name c.add_request.new.tokens (Some added.token) free added.sets;
+    })
