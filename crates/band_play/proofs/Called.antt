@@ -5,6 +5,8 @@ use Rattle.std.specs.List.{slice_get, slice_set}
 use Rattle.std.proofs.lemmas.Option.{same_Some}
 use Rattle.band_play.specs.Objects.{ObjectState}
 use Rattle.band_sem.specs.declared.refusal.Refusal.{Refusal}
+use Rattle.band_sem.specs.declared.errors.ReduceError.{ReduceError}
+use Rattle.band_sem.specs.declared.errors.ReduceError.TheVariants.{Debt, NoMemory}
 use Rattle.band_sem.specs.declared.errors.ReleaseError.{ReleaseError}
 use Rattle.band_sem.specs.declared.errors.ReleaseError.TheVariants.{Overflow}
 use Rattle.band_play.specs.declared.table.Table.{Table}
@@ -107,6 +109,11 @@ refuted false absent = refl
 pub ok_no_err : {T E : Type 0} (result : Result T E) (t : T) (e : E) → result ≡ Ok t → result ≡ Err e → ⊥
 ok_no_err (Ok x) t e is h = cc
 ok_no_err (Err x) t e is h = cc
+
+-- want of memory is no debt
+pub no_memory_no_debt : {T : Type 0} (result : Result T ReduceError) → result ≡ Err NoMemory → result ≡ Err Debt → ⊥
+no_memory_no_debt (Ok x) is h = cc
+no_memory_no_debt (Err e) is h = cc
 
 -- a release is refused for one reason
 pub only_overflow : (error : ReleaseError) → error ≡ Overflow

@@ -1,5 +1,5 @@
 -- A call of an object by its name follows the step of the state.
-use Rattle.std.proofs.Common.{◌≡◌, ℕ, ◌+◌, false, true, List, [], Option, Some, None, Ok, refl, ap, ◌∙◌}
+use Rattle.std.proofs.Common.{◌≡◌, ℕ, ◌+◌, false, true, List, [], Option, Some, None, Ok, refl, sym, ap, ◌∙◌, subst}
 use Rattle.std.specs.List.{slice_get, slice_set}
 use Rattle.band_balance.specs.Line.{is_served, take_permits, give_back, available, drained, overflows, owes_too_much, total}
 use Rattle.std.proofs.Common.{length}
@@ -14,12 +14,13 @@ use Rattle.band_play.specs.Names.{Updated}
 use Rattle.band_play.specs.State.{State, Named, Tag, tag, standing}
 use Rattle.band_play.specs.Step.{Outcome, refused, after_turn, turn_of, turn_at, unless_taken, is_of, calling_for, trying, releasing, reducing, draining, showing, reply_of}
 use Rattle.band_play.specs.Table.{StandsUnder}
+use Rattle.band_play.specs.Kept.{DidWork}
 use Rattle.band_play.specs.Moves.{object_of}
 use Rattle.band_play.proofs.Lists.{cond_false, cond_true}
 use Rattle.band_play.proofs.Standing.{standing_of}
 use Rattle.band_play.proofs.Asking.{tried_served}
 use Rattle.band_play.proofs.Follow.{Matches, by_turn, object_from, stands_as, there_for, kind_of, taken, calling_at, calling_for_at}
-use Rattle.band_play.proofs.Numbers.{released_turn, reduced_turn, drained_turn, tried_in_vain, shown_turn, same_overflow, same_debt}
+use Rattle.band_play.proofs.Numbers.{released_turn, reduced_turn, drained_turn, tried_in_vain, shown_turn, same_served, same_overflow, same_debt}
 
 module _ (names : ℕ → ℕ → Tag) (table : List ℕ → Option Thing) (sems : List ObjectState) (state : State) (stands : StandsUnder names table sems state) where
   module _ (of : List ℕ) (place : ℕ) (sem : ObjectState) (object : object_of (table of) ≡ Ok place) (at_sem : slice_get sems place ≡ Some sem) (quiet : sem.line.wakes ≡ []) where
@@ -63,6 +64,14 @@ module _ (names : ℕ → ℕ → Tag) (table : List ℕ → Option Thing) (sems
         (reduced_turn names table sems state place sem named stands at_sem at_named quiet n lawful)
         at_sem refl
 
+    pub reduce_works : (n : ℕ) → is_of sem.kind Permit ≡ true → owes_too_much n sem.line ≡ false → DidWork (reducing (standing of state) n state).reply
+    reduce_works n offers fits =
+        subst (λ (o : Outcome). DidWork o.reply)
+        (sym (semaphore_at Permit _ offers
+        ∙ cond_false (would_owe_too_much n named.object) (refused refusals.Debt state) (turn_at place (reduce n) state) (same_debt names table sems state place sem named stands at_sem at_named quiet n ∙ fits)
+        ∙ turned (reduce n)))
+        tt
+
     pub reduce_owes : (n : ℕ) → is_of sem.kind Permit ≡ true → owes_too_much n sem.line ≡ true → reducing (standing of state) n state ≡ refused refusals.Debt state
     reduce_owes n offers over =
         semaphore_at Permit _ offers
@@ -105,6 +114,12 @@ module _ (names : ℕ → ℕ → Tag) (table : List ℕ → Option Thing) (sems
           (trying_at None absent ∙ turned (try_for (tag mode made) n))
           (tried_served names table table' mode made n 0 sems state place sem named stands at_sem at_named fits absent quiet served update lawful)
           at_sem refl
+
+      pub try_works : table made ≡ None → is_served n sem.line ≡ true → DidWork (trying mode size (standing of state) made state).reply
+      try_works absent served =
+          subst (λ (o : Outcome). DidWork o.reply) (sym (trying_at None absent ∙ turned (try_for (tag mode made) n)))
+          (subst (λ (t : Turn Tag). DidWork (reply_of t.answer))
+          (sym (cond_true (is_served n named.object.line) _ _ (same_served names table sems state place sem named stands at_sem at_named quiet n ∙ served))) tt)
 
       pub try_fails : table made ≡ None → is_served n sem.line ≡ false
           → Matches (trying mode size (standing of state) made state) replies.Nothing table place (slice_set sems place sem)

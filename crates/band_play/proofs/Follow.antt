@@ -2,10 +2,10 @@
 use Rattle.std.proofs.Common.{◌≡◌, ℕ, Bool, cond, true, false, ◌==◌, List, [], Option, Some, None, Result, Ok, Err, refl, sym, ap, ap₂, ◌∙◌, subst}
 use Rattle.std.specs.List.{slice_get, slice_set}
 use Rattle.std.specs.Str.{bytes_eq}
-use Rattle.std.proofs.lemmas.Bool.{false≢true, eqb-true}
+use Rattle.std.proofs.lemmas.Bool.{false≢true, eqb-true, cond_both}
 use Rattle.std.proofs.lemmas.Bool.Decides.{Decides-eqb}
 use Rattle.std.proofs.lemmas.Option.{none-some, same_Some}
-use Rattle.band_balance.specs.Line.{Entry, requests, entry_named, cancel}
+use Rattle.band_balance.specs.Line.{Entry, requests, entry_named, is_served, cancel}
 use Rattle.band_balance.specs.Object.{Object, Kind, Semaphore, Mutex, ReaderWriter, Mode, Turn, Answer, ask, poll, drop}
 use Rattle.band_balance.specs.Object as object
 use Rattle.band_base.specs.declared.poll.Poll.{Poll}
@@ -31,7 +31,7 @@ use Rattle.band_play.specs.Table.{StandsUnder, Stands, IsKnown}
 use Rattle.band_play.specs.Moves.{FitsRequest, PollsAs, PollsRequest, PollsThing, AsksFirst, Becomes, IsAnswered, GivesIn, permit_answer, object_of, offers_at, offering, kind_at, given_back, cancelled_at, place_at, mode_of, size_for}
 use Rattle.band_play.specs.declared.object.Want.{Want}
 use Rattle.band_play.specs.declared.object.Want.TheVariants as wants
-use Rattle.band_play.specs.Kept.{wakes_of, OthersQuiet}
+use Rattle.band_play.specs.Kept.{wakes_of, OthersQuiet, DidWork}
 use Rattle.band_play.proofs.Lists.{by_bool, at_set_same, at_set_other, also_at, cond_true, cond_false}
 use Rattle.band_play.proofs.Standing.{standing_is, standing_of, same_bytes}
 use Rattle.band_play.proofs.Change.{all_weaker}
@@ -274,6 +274,18 @@ module _ (names : ℕ → ℕ → Tag) (table : List ℕ → Option Thing) (sems
         calling_for_at mode of place sem asked_at objected at_sem offers
         ∙ ap (λ s. unless_taken s (turn_at place (ask (tag mode made) (size named.object.kind) waker) state) state) (stands_as made (table made) refl)
         ∙ taken (table made) thing (turn_at place (ask (tag mode made) (size named.object.kind) waker) state) state live
+
+    pub ask_works : (place : ℕ) (sem : ObjectState) → object_of (table of) ≡ Ok place → slice_get sems place ≡ Some sem → is_of sem.kind mode ≡ true → table made ≡ None
+        → DidWork (asking mode size (standing of state) made waker state).reply
+    ask_works place sem objected at_sem offers absent =
+        let there = there_for place of (object_from (table of) place objected) in
+        let named = there.0 in
+        let n = size named.object.kind in
+        subst (λ (o : Outcome). DidWork o.reply)
+        (sym (calling_for_at mode of place sem asked_at objected at_sem offers
+        ∙ ap (λ s. unless_taken s (turn_at place (ask (tag mode made) n waker) state) state) (stands_as made None absent)
+        ∙ ap (λ o. turn_of o place (ask (tag mode made) n waker) state) there.1))
+        (cond_both (is_served n named.object.line) _ _ (λ (t : Turn Tag). DidWork (reply_of t.answer)) (λ now. tt) (λ later. tt))
 
     module _ (table' : List ℕ → Option Thing) (place : ℕ) (before after : ObjectState) (n : ℕ) (size_is : size before.kind ≡ n) (thing : Thing) (reply : Reply) (left : RequestState)
         (objected : object_of (table of) ≡ Ok place) (offers : is_of before.kind mode ≡ true) (fits : Fits before.kind mode n)

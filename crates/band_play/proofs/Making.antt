@@ -13,10 +13,10 @@ use Rattle.band_play.specs.Thing as things
 use Rattle.band_play.specs.Names.{Updated}
 use Rattle.band_play.specs.declared.object.New.{New}
 use Rattle.band_play.specs.Moves.{kind_made, count_made}
-use Rattle.band_play.specs.State.{State, Named, Tag}
+use Rattle.band_play.specs.State.{State, Named, Tag, Standing}
 use Rattle.band_play.specs.Step.{Outcome, unless_taken, making}
 use Rattle.band_play.specs.Table.{StandsAt, StandsUnder, IsKnown}
-use Rattle.band_play.specs.Kept.{wakes_of}
+use Rattle.band_play.specs.Kept.{wakes_of, DidWork}
 use Rattle.band_play.proofs.Lists.{by_bool}
 use Rattle.band_play.proofs.Standing.{same_bytes, bytes_same}
 use Rattle.band_play.proofs.Starting.{nothing_twice}
@@ -56,6 +56,11 @@ starts_steady new number made start steady same =
     subst (λ k. IsSteady (fresh (kind_made new) k (count_made new))) same (subst (λ (o : ObjectState). IsSteady o) start steady)
 
 module _ (names : ℕ → ℕ → Tag) (table : List ℕ → Option Thing) (sems : List ObjectState) (state : State) (stands : StandsUnder names table sems state) where
+  pub make_works : (made : List ℕ) (object : Object Tag) → table made ≡ None → DidWork (making made object state).reply
+  make_works made object absent =
+      subst (λ (standing : Standing). DidWork (unless_taken standing (record { reply = replies.Done; woken = []; state = state ++ record { name = made; object = object } ∷ [] }) state).reply)
+      (sym (stands_as names table sems state stands made None absent)) tt
+
   module _ (table' : List ℕ → Option Thing) (kind : Kind) (made : List ℕ) (n : ℕ) (steady : IsSteady (fresh kind (length sems) n)) (absent : table made ≡ None)
       (update : Updated table table' made (Some (things.Object (length sems)))) where
     abbrev new : ObjectState

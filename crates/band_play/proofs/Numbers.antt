@@ -145,10 +145,13 @@ module _ (names : ℕ → ℕ → Tag) (table : List ℕ → Option Thing) (sems
   same_turn answer =
       turns_still names table sems state place sem sem named stands at_sem at_named no_wakes named.object same_line refl refl refl refl refl refl at_once.lawful answer
 
+  pub same_served : (n : ℕ) → is_served n named.object.line ≡ is_served n sem.line
+  same_served n = ap (is_served n) same_line ∙ is_served-rename (names place) n sem.line
+
   pub tried_in_vain : (mode : Mode) (made : List ℕ) (n : ℕ) → is_served n sem.line ≡ false → TurnsTo names table sems state place sem named Nothing (try_for (tag mode made) n named.object)
   tried_in_vain mode made n waits =
       subst (λ (t : Turn Tag). TurnsTo names table sems state place sem named Nothing t)
-      (sym (cond_false (is_served n named.object.line) _ (turn Nothing named.object) (ap (is_served n) same_line ∙ is_served-rename (names place) n sem.line ∙ waits)))
+      (sym (cond_false (is_served n named.object.line) _ (turn Nothing named.object) (same_served n ∙ waits)))
       (same_turn Nothing)
 
   pub same_figures : Figures (available named.object.line) named.object.line.free (length named.object.line.waiting) (total named.object.line.granted) (total named.object.held)

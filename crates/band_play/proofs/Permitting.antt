@@ -1,11 +1,11 @@
 -- A call of a permit by its name follows the step of the state.
-use Rattle.std.proofs.Common.{◌≡◌, ℕ, Bool, ◌-◌, ◌≤◌, List, [], Option, Some, None, Result, Ok, Err, refl, ap, ◌∙◌, subst, ◌<◌, cond, true, false, sym}
+use Rattle.std.proofs.Common.{◌≡◌, ℕ, Bool, ◌-◌, ◌≤◌, List, [], Option, Some, None, Result, Ok, Err, refl, ap, ◌∙◌, subst, ◌<◌, cond, true, false, nat_le, sym}
 use Rattle.std.specs.List.{slice_get, slice_set}
-use Rattle.band_balance.specs.Object.{Object, Mode, Permit, Lock, Read, Write, Turn, forget, split}
+use Rattle.band_balance.specs.Object.{Object, Mode, Permit, Lock, Read, Write, Turn, forget, split, split_of}
 use Rattle.band_balance.specs.Object as answers
-use Rattle.band_balance.specs.Line.{entry_named}
+use Rattle.band_balance.specs.Line.{Entry, entry_named}
 use Rattle.band_play.specs.Objects.{IsSteady, ObjectState, HoldingState, Fits}
-use Rattle.std.proofs.lemmas.Bool.{false≢true}
+use Rattle.std.proofs.lemmas.Bool.{false≢true, le-leb}
 use Rattle.band_sem.specs.declared.refusal.Refusal.{Refusal}
 use Rattle.band_sem.specs.declared.refusal.Refusal.TheVariants as refusals
 use Rattle.band_play.specs.declared.reply.Reply.TheVariants as replies
@@ -13,8 +13,9 @@ use Rattle.band_play.specs.Thing.{Thing}
 use Rattle.band_play.specs.Thing as things
 use Rattle.band_play.specs.Names.{Updated}
 use Rattle.band_play.specs.State.{State, Named, Tag, is_tag, standing, tag, permit_tag}
-use Rattle.band_play.specs.Step.{Outcome, refused, turn_of, turn_at, same_mode, if_held, held_by, on_held, unless_taken, forgetting, splitting}
+use Rattle.band_play.specs.Step.{Outcome, reply_of, refused, turn_of, turn_at, same_mode, if_held, held_by, on_held, unless_taken, forgetting, splitting}
 use Rattle.band_play.specs.Table.{StandsUnder, IsKnown}
+use Rattle.band_play.specs.Kept.{DidWork}
 use Rattle.band_play.specs.Moves.{held_as, FitsHolding}
 use Rattle.std.proofs.lemmas.Option.{none-some}
 use Rattle.band_play.proofs.Standing.{standing_of, same_bytes}
@@ -146,6 +147,13 @@ module _ (names : ℕ → ℕ → Tag) (table : List ℕ → Option Thing) (sems
         (splitting_at made n None absent ∙ ap (λ o. turn_of o permit.of (split (is_tag name) (permit_tag made) n) state) at_named)
         (splits names table mid table' sems state permit.of sem named stands at_sem at_named quiet name made permit.count n of_semaphore enough within permitted own absent_still first second)
         at_sem refl
+
+    pub split_works : (made : List ℕ) (n : ℕ) → n ≤ permit.count → table made ≡ None → DidWork (splitting (standing name state) name made n state).reply
+    split_works made n enough absent =
+        subst (λ (o : Outcome). DidWork o.reply)
+        (sym (splitting_at made n None absent ∙ ap (λ o. turn_of o permit.of (split (is_tag name) (permit_tag made) n) state) at_named))
+        (subst (λ (e : Option (Entry Tag)). DidWork (reply_of (split_of e (is_tag name) (permit_tag made) n named.object).answer)) (sym own)
+        (subst (λ (t : Turn Tag). DidWork (reply_of t.answer)) (sym (cond_true (nat_le n permit.count) _ _ (le-leb n permit.count enough))) tt))
 
     pub split_fails : (made : List ℕ) (n : ℕ) → permit.count < n → table made ≡ None
         → Matches (splitting (standing name state) name made n state) replies.Nothing table permit.of (slice_set sems permit.of sem)

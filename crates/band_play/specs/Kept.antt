@@ -2,6 +2,7 @@
 use Rattle.std.specs.Prelude.{◌≡◌, ◌≢◌, ℕ, List, [], Option, Some, None, slice_get}
 use Rattle.band_play.specs.Objects.{ObjectState}
 use Rattle.band_play.specs.declared.reply.Reply.{Reply}
+use Rattle.band_play.specs.declared.reply.Reply.TheVariants as replies
 use Rattle.band_play.specs.declared.table.Table.{Table}
 use Rattle.band_play.specs.State.{State}
 use Rattle.band_play.specs.Step.{Outcome}
@@ -34,6 +35,16 @@ abbrev pub Follows : (State → Outcome) → Table → Reply → Table → Type 
 Follows call old reply new =
     (state : State) → StandsFor old state →
     (reply ≡ (call state).reply) × (wakes_left new ≡ (call state).woken) × StandsFor new (call state).state
+
+-- the reply of a call that did its work
+abbrev pub DidWork : Reply → Type 0
+DidWork replies.Nothing = ⊥
+DidWork (replies.Refused refusal) = ⊥
+DidWork reply = Unit {0}
+
+-- in every state that is stood for, the call does its work
+abbrev pub Works : (State → Outcome) → Table → Type 0
+Works call table = (state : State) → StandsFor table state → DidWork (call state).reply
 
 -- every state that was stood for still is
 abbrev pub Remains : Table → Table → Type 0

@@ -21,6 +21,10 @@ wakers_left player = kept.wakes_left player.table
 abbrev pub Follows : (State → Outcome) → Player → Reply → Player → Type 0
 Follows call old reply new = kept.Follows call old.table reply new.table
 
+-- in each state that the player may have come to, the call does its work: it is not refused, and not answered by `none`
+abbrev pub Works : (State → Outcome) → Player → Type 0
+Works call player = kept.Works call player.table
+
 -- it has come to what it had come to, whichever of its wakers are taken
 abbrev pub Stays : Player → Player → Type 0
 Stays old new = kept.Remains old.table new.table

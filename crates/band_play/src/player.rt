@@ -34,7 +34,7 @@ fn most_readers(n: Option<u64>) -> u64
 impl Player {
     ghost use Rattle.std.specs.Prelude.{◌≡◌, [], ◌∷◌, IfOk, OnErr, IsOk, MatchOption};
     ghost use Rattle.band_play.specs.Step.{step};
-    ghost use Rattle.band_play.specs.Player.{StandsFor, Follows, Stays, KeepsLaws, TakesNoMemory, ForReaders, wakers_left};
+    ghost use Rattle.band_play.specs.Player.{StandsFor, Follows, Works, Stays, KeepsLaws, TakesNoMemory, ForReaders, wakers_left};
 
     /// No name.
     pub fn new(alloc: Global) -> Player
@@ -59,6 +59,8 @@ impl Player {
         requires readers { ForReaders call.now }
         ensures follows { IfOk result (λ reply. Follows (step call.now) self.old reply self.new) }
         ensures err { OnErr result (Stays self.old self.new × (wakers_left self.new ≡ [])) }
+        // Want of memory comes in the place of neither a refusal nor `none`.
+        ensures works { OnErr result (Works (step call.now) self.old) }
         ensures succeeds { TakesNoMemory call.now → IsOk result }
         ensures lawful { KeepsLaws self.new }
     {
@@ -76,6 +78,7 @@ impl Player {
         requires readers { ForReaders call }
         ensures follows { IfOk result (λ reply. Follows (step call) self.old reply self.new) }
         ensures err { OnErr result (Stays self.old self.new × (wakers_left self.new ≡ [])) }
+        ensures works { OnErr result (Works (step call) self.old) }
         ensures succeeds { TakesNoMemory call → IsOk result }
         ensures lawful { KeepsLaws self.new }
     {

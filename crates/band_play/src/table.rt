@@ -5,7 +5,7 @@ ghost use Rattle.band_play.specs.Step.{making, asking, polling, dropping, trying
 ghost use Rattle.band_play.specs.State.{standing};
 ghost use Rattle.band_play.specs.Names.{thing_at};
 ghost use Rattle.band_play.specs.Moves.{PollsName, IsFit, mode_of, size_for, object_of, offering, held_as, mergeable, CanGrow, Grows, Downgrades, IsForReaders, object_made};
-ghost use Rattle.band_play.specs.Kept.{StandsFor, IsSound, Follows, Stays, Remains, wakes_left};
+ghost use Rattle.band_play.specs.Kept.{StandsFor, IsSound, Follows, Works, Stays, Remains, wakes_left};
 
 use crate::names::Names;
 use crate::object::{New, Object, Want};
@@ -69,6 +69,7 @@ impl Table {
         requires readers { IsForReaders new }
         ensures follows { IfOk result (λ reply. Follows (making made (object_made new)) self.old reply self.new) }
         ensures err { OnErr result (Stays self.old self.new) }
+        ensures works { OnErr result (Works (making made (object_made new)) self.old) }
         ensures sound { IsSound self.new }
     {
         if self.names.is_live(&made) {
@@ -94,6 +95,7 @@ impl Table {
         requires quiet { wakes_left self.old ≡ [] }
         ensures follows { IfOk result (λ reply. Follows (λ state. asking (mode_of want) (size_for want) (standing of.now state) made waker.0 state) self.old reply self.new) }
         ensures err { OnErr result (Stays self.old self.new) }
+        ensures works { OnErr result (Works (λ state. asking (mode_of want) (size_for want) (standing of.now state) made waker.0 state) self.old) }
         ensures sound { IsSound self.new }
     {
         let place = match object_for(&self.names, &self.objects, of, want) {
@@ -154,6 +156,7 @@ impl Table {
         requires quiet { wakes_left self.old ≡ [] }
         ensures follows { IfOk result (λ reply. Follows (λ state. trying (mode_of want) (size_for want) (standing of.now state) made state) self.old reply self.new) }
         ensures err { OnErr result (Stays self.old self.new) }
+        ensures works { OnErr result (Works (λ state. trying (mode_of want) (size_for want) (standing of.now state) made state) self.old) }
         ensures sound { IsSound self.new }
     {
         let place = match object_for(&self.names, &self.objects, of, want) {
@@ -202,6 +205,7 @@ impl Table {
         requires quiet { wakes_left self.old ≡ [] }
         ensures follows { IfOk result (λ reply. Follows (λ state. reducing (standing of.now state) n state) self.old reply self.new) }
         ensures err { OnErr result (Stays self.old self.new) }
+        ensures works { OnErr result (Works (λ state. reducing (standing of.now state) n state) self.old) }
         ensures sound { IsSound self.new }
     {
         let place = match object_for(&self.names, &self.objects, of, Want::Permits(n)) {
@@ -276,6 +280,7 @@ impl Table {
         requires quiet { wakes_left self.old ≡ [] }
         ensures follows { IfOk result (λ reply. Follows (λ state. splitting (standing name.now state) name.now made n state) self.old reply self.new) }
         ensures err { OnErr result (Stays self.old self.new) }
+        ensures works { OnErr result (Works (λ state. splitting (standing name.now state) name.now made n state) self.old) }
         ensures sound { IsSound self.new }
     {
         if let Err(refusal) = self.names.permit_at(name) {

@@ -62,3 +62,42 @@ returns-in-Downgrade-clause-follows g c = rw c.in-Downgrade.is c.downgrade.ensur
 
 pub returns-in-Rw-clause-follows : goal.returns-in-Rw-clause-follows
 returns-in-Rw-clause-follows g c = rw (c.in-Rw.is, ← c.most_readers-max.ensures) c.make-in-Rw.ensures.follows
+
+pub returns-in-Sem-clause-works : goal.returns-in-Sem-clause-works
+returns-in-Sem-clause-works g c = rw c.in-Sem.is c.make.ensures.works
+
+pub returns-in-Ask-clause-works : goal.returns-in-Ask-clause-works
+returns-in-Ask-clause-works g c = rw c.in-Ask.is c.ask.ensures.works
+
+pub returns-in-Try-clause-works : goal.returns-in-Try-clause-works
+returns-in-Try-clause-works g c = rw c.in-Try.is c.try_for.ensures.works
+
+pub returns-in-Reduce-clause-works : goal.returns-in-Reduce-clause-works
+returns-in-Reduce-clause-works g c = rw c.in-Reduce.is c.reduce.ensures.works
+
+pub returns-in-Split-clause-works : goal.returns-in-Split-clause-works
+returns-in-Split-clause-works g c = rw c.in-Split.is c.split.ensures.works
+
+pub returns-in-Mutex-clause-works : goal.returns-in-Mutex-clause-works
+returns-in-Mutex-clause-works g c = rw c.in-Mutex.is c.make-in-Mutex.ensures.works
+
+pub returns-in-Lock-clause-works : goal.returns-in-Lock-clause-works
+returns-in-Lock-clause-works g c = rw c.in-Lock.is c.ask-in-Lock.ensures.works
+
+pub returns-in-Read-clause-works : goal.returns-in-Read-clause-works
+returns-in-Read-clause-works g c = rw c.in-Read.is c.ask-in-Read.ensures.works
+
+pub returns-in-Write-clause-works : goal.returns-in-Write-clause-works
+returns-in-Write-clause-works g c = rw c.in-Write.is c.ask-in-Write.ensures.works
+
+pub returns-in-TryLock-clause-works : goal.returns-in-TryLock-clause-works
+returns-in-TryLock-clause-works g c = rw c.in-TryLock.is c.try_for-in-TryLock.ensures.works
+
+pub returns-in-TryRead-clause-works : goal.returns-in-TryRead-clause-works
+returns-in-TryRead-clause-works g c = rw c.in-TryRead.is c.try_for-in-TryRead.ensures.works
+
+pub returns-in-TryWrite-clause-works : goal.returns-in-TryWrite-clause-works
+returns-in-TryWrite-clause-works g c = rw c.in-TryWrite.is c.try_for-in-TryWrite.ensures.works
+
+pub returns-in-Rw-clause-works : goal.returns-in-Rw-clause-works
+returns-in-Rw-clause-works g c = rw (c.in-Rw.is, ← c.most_readers-max.ensures) c.make-in-Rw.ensures.works

@@ -1,8 +1,8 @@
 use Rattle.std.proofs.Common.{refl, sym, ◌∙◌}
 use Rattle.band_play.proofs.TableLemmas.{ask_refuses, ask_takes, ask_done, none_from, some_there, stays, sound_same, polls_quiet, on_err}
 use Rattle.band_play.proofs.Sound.{object_in, numbered_in, sound_after}
-use Rattle.band_play.proofs.Follow.{offered_at, offers_of}
-use Rattle.band_play.specs.Moves.{mode_of}
+use Rattle.band_play.proofs.Follow.{offered_at, offers_of, ask_works}
+use Rattle.band_play.specs.Moves.{mode_of, size_for}
 use Rattle.band_play.proofs.table.Table.ask.Goals as goal
 
 pub object_for-requires : goal.object_for-requires
@@ -55,3 +55,10 @@ returns-clause-sound g c =
     sound_after _ c.args.self.now c.in_ok-reply.reply _ c.requires.sound (returns-clause-follows g c)
     (polls_quiet c.args.self.now c.requires.sound c.requires.quiet (record { names = c.ask.new.self; objects = c.ask.new.objects; last = c.in-Ok.place })
     c.args.want c.in-Ok.place c.args.waker.0 asked.left c.in_ok-reply.reply asked.asked refl)
+
+pub returns-in_err-reply-clause-works : goal.returns-in_err-reply-clause-works
+returns-in_err-reply-clause-works g c =
+    let offered = offered_at (mode_of c.args.want) c.args.self.now.objects.items _ c.in-Ok.place (sym c.object_for.ensures ∙ c.in-Ok.is) in
+    let sem = some_there c.args.self.now.objects.items c.in-Ok.place (object_in c.args.self.now c.args.of.now c.in-Ok.place c.requires.sound offered.0) in
+    on_err c.from_residual.result _ (λ state stands. ask_works stands.0 _ _ state stands.1 (mode_of c.args.want) (size_for c.args.want) c.args.made c.args.of.now c.args.waker.0 c.in-Ok.place sem.0 offered.0 sem.1
+    (offers_of (mode_of c.args.want) c.args.self.now.objects.items c.in-Ok.place sem.0 sem.1 offered.1) (none_from _ c.is_live.result c.is_live.ensures.1 c.if-is_live.false))

@@ -1,6 +1,6 @@
 use Rattle.std.proofs.Common.{◌≡◌, length, refl, arith}
 use Rattle.band_play.specs.Moves.{kind_made, count_made, object_made}
-use Rattle.band_play.proofs.Making.{starts_steady}
+use Rattle.band_play.proofs.Making.{starts_steady, make_works}
 use Rattle.band_play.proofs.TableLemmas.{make_takes, make_done, make_sound, stays, sound_same, none_from, on_err, object_placed, pushed}
 use Rattle.band_play.proofs.table.Table.make.Goals as goal
 
@@ -34,3 +34,11 @@ returns-clause-sound c =
     (kind_made c.args.new) c.args.made (count_made c.args.new) (starts_steady c.args.new c.len-place.result c.new.result c.new.ensures.start c.new.ensures.steady place) (none_from _ c.is_live.result c.is_live.ensures.1 c.if-is_live.false)
     (object_placed _ _ c.args.made _ _ place c.in_ok-add_object.ensures.ok)
     (pushed c.args.self.now.objects.items c.reserve.new.self.items c.push.new.self.items c.push.result _ c.new.result (kind_made c.args.new) c.len-place.result (count_made c.args.new) c.push.ensures.items c.unwrap.ensures c.in_ok-reserve.ensures.items c.new.ensures.start place)
+
+pub returns-in_err-reserve-clause-works : goal.returns-in_err-reserve-clause-works
+returns-in_err-reserve-clause-works c =
+    on_err c.from_residual.result _ (λ state stands. make_works stands.0 _ _ state stands.1 c.args.made (object_made c.args.new) (none_from _ c.is_live.result c.is_live.ensures.1 c.if-is_live.false))
+
+pub returns-in_err-add_object-clause-works : goal.returns-in_err-add_object-clause-works
+returns-in_err-add_object-clause-works c =
+    on_err c.from_residual-in_err-add_object.result _ (λ state stands. make_works stands.0 _ _ state stands.1 c.args.made (object_made c.args.new) (none_from _ c.is_live.result c.is_live.ensures.1 c.if-is_live.false))

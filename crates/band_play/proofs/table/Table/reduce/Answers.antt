@@ -4,13 +4,13 @@ use Rattle.std.specs.Vec.{with_item}
 use Rattle.std.proofs.lemmas.Option.{slice_get_read}
 use Rattle.band_balance.specs.Line.{take_permits, owes_too_much}
 use Rattle.band_play.specs.Objects.{IsSteady, ObjectState}
-use Rattle.band_sem.specs.declared.errors.ReduceError.TheVariants.{Debt}
+use Rattle.band_sem.specs.declared.errors.ReduceError.TheVariants.{Debt, NoMemory}
 use Rattle.band_sem.specs.declared.refusal.Refusal.TheVariants as refusals
 use Rattle.band_play.specs.declared.reply.Reply.TheVariants as replies
 use Rattle.band_play.specs.State.{standing}
 use Rattle.band_play.specs.Step.{reducing}
-use Rattle.band_play.proofs.Called.{ok_no_err, refuses, still_sound, still_stays, call_follows, call_sound, quiet_there, refuted, set_itself}
-use Rattle.band_play.proofs.Calling.{reduce_follows, reduce_owes}
+use Rattle.band_play.proofs.Called.{ok_no_err, no_memory_no_debt, refuses, still_sound, still_stays, call_follows, call_sound, quiet_there, refuted, set_itself}
+use Rattle.band_play.proofs.Calling.{reduce_follows, reduce_works, reduce_owes}
 use Rattle.band_balance.specs.Object.{Permit}
 use Rattle.band_play.proofs.Follow.{calling_for_refused, offered_at, offers_of}
 use Rattle.band_play.proofs.TableLemmas.{some_there}
@@ -100,3 +100,15 @@ returns-in-Err-NoMemory-clause-sound g c =
     let within = object_in c.args.self.now c.args.of.now c.in-Ok.place c.requires.sound object in
     let there : slice_get c.args.self.now.objects.items c.in-Ok.place ≡ Some sem = slice_get_read c.args.self.now.objects.items _ c.in-Ok.place sem refl within c.index_mut-object.ensures.value in
     still_sound c.args.self.now c.requires.sound c.requires.quiet (record { names = c.args.self.now.names; objects = with_item c.args.self.now.objects c.in-Ok.place c.reduce.new.self; last = c.in-Ok.place }) (λ n. refl) (ap (slice_set c.args.self.now.objects.items c.in-Ok.place) c.in-Err-NoMemory.ensures.err ∙ set_itself c.args.self.now.objects.items c.in-Ok.place sem there)
+
+pub returns-in-Err-NoMemory-clause-works : goal.returns-in-Err-NoMemory-clause-works
+returns-in-Err-NoMemory-clause-works g c =
+    let sem = c.index_mut-object.result.now in
+    let offered = offered_at Permit c.args.self.now.objects.items _ c.in-Ok.place (sym c.object_for.ensures ∙ c.in-Ok.is) in
+    let object = offered.0 in
+    let within = object_in c.args.self.now c.args.of.now c.in-Ok.place c.requires.sound object in
+    let there : slice_get c.args.self.now.objects.items c.in-Ok.place ≡ Some sem = slice_get_read c.args.self.now.objects.items _ c.in-Ok.place sem refl within c.index_mut-object.ensures.value in
+    let is : c.reduce.result ≡ Err NoMemory = c.in-Err-NoMemory.is ∙ ap Err c.in-Err-NoMemory.field-0-is in
+    λ state stands. reduce_works stands.0 _ _ state stands.1 c.args.of.now c.in-Ok.place sem object there (quiet_there c.args.self.now c.requires.sound c.requires.quiet c.in-Ok.place sem there) c.args.n
+    (offers_of Permit c.args.self.now.objects.items c.in-Ok.place sem there offered.1)
+    (refuted (owes_too_much c.args.n sem.line) (λ over. no_memory_no_debt c.reduce.result is (c.reduce.ensures.debt.1 over)))

@@ -1,4 +1,4 @@
-use Rattle.std.proofs.Common.{◌≡◌, ◌-◌, ◌<◌, Some, None, false, refl, sym, ◌∙◌, subst, rules}
+use Rattle.std.proofs.Common.{◌≡◌, ◌-◌, ◌<◌, ◌≤◌, Some, None, false, refl, sym, ◌∙◌, subst, rules}
 use Rattle.std.specs.Str.{bytes_eq}
 use Rattle.band_balance.specs.Object.{Permit}
 use Rattle.band_sem.specs.declared.refusal.Refusal.TheVariants as refusals
@@ -8,7 +8,7 @@ use Rattle.band_play.specs.Names.{Updated, thing_at}
 use Rattle.band_play.specs.State.{standing}
 use Rattle.band_play.specs.Step.{splitting}
 use Rattle.band_play.proofs.Called.{refuses, shows, call_follows, call_sound, quiet_there, set_itself}
-use Rattle.band_play.proofs.Permitting.{permit_from, mode_same, permit_there, permit_refused, split_taken, split_follows, split_fails, two_names}
+use Rattle.band_play.proofs.Permitting.{permit_from, mode_same, permit_there, permit_refused, split_taken, split_follows, split_works, split_fails, two_names}
 use Rattle.band_play.proofs.Sound.{fits_in}
 use Rattle.band_play.proofs.TableLemmas.{some_of, none_from, stays, sound_same, on_err}
 use Rattle.band_play.proofs.table.Table.split.Goals as goal
@@ -94,3 +94,14 @@ returns-clause-sound c =
     (λ names state stands. split_follows names _ _ state stands c.args.name.now permit sem.0 is mode_is sem.1 (quiet_there c.args.self.now c.requires.sound c.requires.quiet permit.of sem.0 sem.1)
     split.mid (thing_at c.split.new.self) c.args.made c.args.n split.enough sem.3 absent
     (split.parted.others c.args.made apart ∙ absent) parted added)
+
+pub returns-in_err-self-clause-works : goal.returns-in_err-self-clause-works
+returns-in_err-self-clause-works c =
+    let permit = c.in_default.ensures.holding in
+    let held = permit_from Permit _ permit c.in_default.ensures.is in
+    let is : thing_at c.args.self.now.names c.args.name.now ≡ Some (things.Holding permit) = held.0 in
+    let mode_is = mode_same Permit permit.mode held.1 in
+    let sem = permit_there _ permit (fits_in c.args.self.now c.args.name.now (things.Holding permit) c.requires.sound is) in
+    let absent : thing_at c.args.self.now.names c.args.made ≡ None = (none_from _ c.is_live.result c.is_live.ensures.1 c.if-is_live.false) in
+    on_err c.from_residual.result _ (λ state stands. split_works stands.0 _ _ state stands.1 c.args.name.now permit sem.0 is mode_is sem.1 (quiet_there c.args.self.now c.requires.sound c.requires.quiet permit.of sem.0 sem.1) c.args.made c.args.n
+    (subst (λ k. c.args.n ≤ k) (c.permits.ensures permit c.in_default.ensures.is) (search rules)) absent)

@@ -12,7 +12,7 @@ use Rattle.band_play.specs.State.{standing}
 use Rattle.band_play.specs.Step.{trying}
 use Rattle.band_play.specs.Moves.{mode_of, size_for}
 use Rattle.band_play.proofs.Called.{refuses, shows, call_follows, call_sound, quiet_there, set_itself}
-use Rattle.band_play.proofs.Calling.{try_taken, try_follows, try_fails}
+use Rattle.band_play.proofs.Calling.{try_taken, try_follows, try_works, try_fails}
 use Rattle.band_play.proofs.Follow.{calling_for_refused, offered_at, offers_of, want_fits}
 use Rattle.band_play.proofs.Sound.{object_in, numbered_in}
 use Rattle.band_play.proofs.TableLemmas.{some_of, some_there, none_from, stays, sound_same, on_err}
@@ -133,3 +133,18 @@ returns-clause-sound c =
     (none_from _ c.is_live.result c.is_live.ensures.1 c.if-is_live.false) served
     (subst (λ (k : ℕ). Updated (thing_at c.args.self.now.names) (thing_at c.take.new.self) c.args.made (Some (things.Holding (record { mode = mode_of c.args.want; of = k; count = n })))) number c.in_ok-take.ensures.ok)
     (subst (λ (s : ObjectState). IsSteady s) after c.in_ok-take.ensures.steady))
+
+pub returns-in_err-take-clause-works : goal.returns-in_err-take-clause-works
+returns-in_err-take-clause-works c =
+    let offered = offered_at (mode_of c.args.want) c.args.self.now.objects.items _ c.in-Ok.place (sym c.object_for.ensures ∙ c.in-Ok.is) in
+    let object = offered.0 in
+    let within = object_in c.args.self.now c.args.of.now c.in-Ok.place c.requires.sound object in
+    let sem = c.index_mut-object.result.now in
+    let there : slice_get c.args.self.now.objects.items c.in-Ok.place ≡ Some sem = slice_get_read c.args.self.now.objects.items _ c.in-Ok.place sem refl within c.index_mut-object.ensures.value in
+    let seen = c.index.result.now in
+    let before : slice_get c.args.self.now.objects.items c.in-Ok.place ≡ Some seen = slice_get_read c.args.self.now.objects.items _ c.in-Ok.place seen refl within c.index.ensures in
+    let same : seen ≡ sem = same_Some seen sem (sym before ∙ there) in
+    let served : is_served (size_for c.args.want sem.kind) sem.line ≡ true = ap (λ (o : ObjectState). is_served (size_for c.args.want o.kind) o.line) (sym same) ∙ sym c.would_serve.ensures ∙ c.if-not-would_serve.false in
+    on_err c.from_residual.result _ (λ state stands. try_works stands.0 _ _ state stands.1 c.args.of.now c.in-Ok.place sem object there (quiet_there c.args.self.now c.requires.sound c.requires.quiet c.in-Ok.place sem there)
+    (mode_of c.args.want) (size_for c.args.want) c.args.made (size_for c.args.want sem.kind) refl (offers_of (mode_of c.args.want) c.args.self.now.objects.items c.in-Ok.place sem there offered.1)
+    (none_from _ c.is_live.result c.is_live.ensures.1 c.if-is_live.false) served)
