@@ -1,10 +1,11 @@
 -- What is sound is lawful, and what is granted is what was asked for.
-use Rattle.std.proofs.Common.{◌≡◌, ℕ, map, ap, sym, ◌∙◌, Option, Some, None, Bool, nat_eq}
+use Rattle.std.proofs.Common.{◌≡◌, ℕ, map, take, drop, ap, sym, ◌∙◌, Option, Some, None, Bool, nat_eq}
 use Rattle.std.specs.Global.{Global}
 use Rattle.std.specs.List.{IsDistinct}
 use Rattle.std.specs.declared.boxed.Box.{Box}
 use Rattle.std.specs.Prelude.{find}
 use Rattle.std.specs.Option.{option_or}
+use Rattle.std.proofs.lemmas.List.{take-append-drop}
 use Rattle.std.proofs.lemmas.List.Folds.{find-append}
 use Rattle.band_balance.specs.Line.{Entry, Line, entry_of, requests, entry_named}
 use Rattle.band_sem.specs.declared.queue.Queue.{Queue}
@@ -12,13 +13,15 @@ use Rattle.band_sem.specs.declared.store.Store.{Store}
 use Rattle.band_sem.specs.Semaphore.{IsLawful, is_slot}
 use Rattle.band_sem.specs.Queue.{members}
 use Rattle.band_sem.specs.Store.{IsSound, IsQueueOrderly, queue_of, line_of}
-use Rattle.band_sem.proofs.Slots.{IsDistinct-rising}
+use Rattle.band_sem.proofs.Slots.{IsDistinct-rising, AreRising-members}
 
 -- a slot is one request's
 pub distinct_slots : (queue : Option (Box Queue Global)) → IsQueueOrderly queue → IsDistinct nat_eq (map (λ e. e.name) (members (queue_of queue)))
 unfolding IsDistinct
 distinct_slots None h = tt
-distinct_slots (Some queue) h = IsDistinct-rising 0 queue.value.next_slot (members (queue_of (Some queue))) h.slots_rise
+distinct_slots (Some queue) h =
+    let line = queue.value.line.items in
+    IsDistinct-rising 0 _ (AreRising-members 0 (take queue.value.granted line) (drop queue.value.granted line) (rw (take-append-drop queue.value.granted line) h.slots_rise))
 
 pub lawful_when_sound : (store : Store) → IsSound store → IsLawful (line_of store) store.held
 lawful_when_sound store h = record {

@@ -1,9 +1,9 @@
--- What is left of a line as it settles, as a request joins, and as a new waker is left.
-use Rattle.std.proofs.Common.{◌≡◌, ℕ, ◌+◌, ◌≤◌, Bool, true, false, List, [], ◌∷◌, ◌++◌, cond, arith, ap, sym, subst, ◌∙◌}
+-- What is left of a line as it settles.
+use Rattle.std.proofs.Common.{◌≡◌, ℕ, ◌+◌, ◌≤◌, true, List, [], ◌∷◌, ◌++◌, arith, sym, subst}
 use Rattle.std.specs.Prelude.{ℤ, pos, neg_ℤ, int_le, ◌+ℤ◌, ◌-ℤ◌, ◌≤ℤ◌}
 use Rattle.std.proofs.lemmas.Bool.{cond_both}
 use Rattle.std.proofs.lemmas.Int.{ints}
-use Rattle.band_balance.specs.Line.{Entry, Waiting, Line, entry_of, total, settle, settle_from, leave_waker, u64_max}
+use Rattle.band_balance.specs.Line.{Entry, Waiting, Line, entry_of, total, settle, settle_from, u64_max}
 use Rattle.band_balance.specs.Settled.{HeadWaits}
 use Rattle.band_balance.proofs.Settle.{total-append, HeadWaits-settle}
 use Rattle.band_sem.specs.Queue.{QueueState, line_at}
@@ -41,16 +41,3 @@ module _ (held : ℕ) (free free' : ℤ) (old new : QueueState) (settles : line_
 
   pub HeadWaits-settles : HeadWaits free' new.waiting
   HeadWaits-settles = subst (λ (line : Line ℕ). HeadWaits line.free line.waiting) (sym settles) (HeadWaits-settle (line_at free old))
-
-abbrev joined : QueueState → ℕ → ℕ → ℕ → QueueState
-joined q slot size waker = record q { waiting = q.waiting ++ record { name = slot; size = size; waker = waker } ∷ [] }
-
--- to join depends on the queue and the slot alone
-pub same_join : (a b : QueueState) (m n size waker : ℕ) → a ≡ b → m ≡ n → joined a m size waker ≡ joined b n size waker
-same_join a b m n size waker p q = ap (λ s. joined s m size waker) p ∙ ap (λ k. joined b k size waker) q
-
--- a new waker changes nobody's size
-pub HeadWaits-leave_waker : (is : ℕ → Bool) (waker : ℕ) (free : ℤ) (waiting : List (Waiting ℕ)) → HeadWaits free waiting → HeadWaits free (leave_waker is waker waiting)
-HeadWaits-leave_waker is waker free [] h = h
-HeadWaits-leave_waker is waker free (w ∷ ws) h =
-    elim (is w.name) as (λ b. HeadWaits free (cond b (record w { waker = waker } ∷ ws) (w ∷ leave_waker is waker ws))) [ true ↦ h | false ↦ h ]

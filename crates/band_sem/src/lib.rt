@@ -2,9 +2,10 @@
 #![tactic(auto)]
 
 mod acquire;
-mod entry;
+mod balance;
 mod errors;
 mod permit;
+mod place;
 mod queue;
 mod refusal;
 mod semaphore;

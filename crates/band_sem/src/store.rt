@@ -5,6 +5,7 @@ ghost use Rattle.band_balance.specs.Line.{open_line, nobody_waits, total, availa
 ghost use Rattle.band_sem.specs.Semaphore.{is_slot, with_wakes};
 ghost use Rattle.band_sem.specs.Store.{line_of, state_of, IsKept, IsSound, JoinsLine, Enters, PollsSlot, TakesGranted};
 
+use crate::balance::Balance;
 use crate::queue::Queue;
 use band_base::Waker;
 use std::alloc::{AllocError, Global};
@@ -21,7 +22,7 @@ pub(crate) enum Entrance {
 /// The state of a semaphore. Its queue is made when the first request joins, and stays from then on.
 #[derive(Drop)]
 pub(crate) struct Store {
-    free: i128,
+    free: Balance,
     number: u64,
     held: u64,
     queue: Option<Box<Queue>>,
@@ -31,6 +32,9 @@ pub(crate) struct Store {
 // A semaphore in which nobody ever waited takes no more than this.
 const _: () = prove!(size_of::<Store>() == 48);
 
+// An enum around it grows by 8 bytes, and not by 16.
+const _: () = prove!(align_of::<Store>() == 8);
+
 impl Store {
     /// Nobody is in the line, and all permits are free.
     pub(crate) fn new(alloc: Global, number: u64, permits: u64) -> Store
@@ -38,7 +42,7 @@ impl Store {
         ensures sound { IsSound result }
     {
         Store {
-            free: i128::from(permits),
+            free: Balance::new(permits),
             number,
             held: 0,
             queue: None,
@@ -55,7 +59,7 @@ impl Store {
     pub(crate) fn free(&self) -> i128
         ensures { result ≡ self.now.free }
     {
-        self.free
+        self.free.get()
     }
 
     pub(crate) fn held(&self) -> u64
@@ -75,6 +79,7 @@ impl Store {
     }
 
     pub(crate) fn waiting_count(&self) -> u64
+        requires { IsSound self.now }
         ensures { result ≡ length (line_of self.now).waiting }
     {
         match &self.queue {
@@ -84,6 +89,7 @@ impl Store {
     }
 
     fn nobody_waits(&self) -> bool
+        requires { IsSound self.now }
         ensures { result ≡ nobody_waits (line_of self.now).waiting }
     {
         match &self.queue {
@@ -97,8 +103,8 @@ impl Store {
         requires { IsSound self.now }
         ensures { result ≡ available (line_of self.now) }
     {
-        if self.nobody_waits() && self.free > 0 {
-            self.free as u64
+        if self.nobody_waits() && self.free() > 0 {
+            self.free() as u64
         } else {
             0
         }
@@ -119,9 +125,10 @@ impl Store {
     }
 
     fn serves(&self, size: u64) -> bool
+        requires { IsSound self.now }
         ensures { result ≡ is_served size (line_of self.now) }
     {
-        size == 0 || (self.nobody_waits() && i128::from(size) <= self.free)
+        size == 0 || (self.nobody_waits() && i128::from(size) <= self.free())
     }
 
     fn serve(&mut self, size: u64)
@@ -130,7 +137,7 @@ impl Store {
         ensures state { state_of self.new ≡ record (state_of self.old) { line = take_permits size (line_of self.old); held = self.old.held + size } }
         ensures sound { IsSound self.new }
     {
-        self.free -= i128::from(size);
+        self.free = Balance::of(self.free() - i128::from(size));
         self.held += size;
     }
 
@@ -156,7 +163,7 @@ impl Store {
         ensures state { state_of self.new ≡ record (state_of self.old) { line = take_permits count (line_of self.old) } }
         ensures sound { IsSound self.new }
     {
-        self.free -= i128::from(count);
+        self.free = Balance::of(self.free() - i128::from(count));
     }
 
     /// Takes what is available, and no more than `up_to`.
@@ -175,7 +182,7 @@ impl Store {
         requires { IsSound self.now }
         ensures { result ≡ owes_too_much count (line_of self.now) }
     {
-        self.free - i128::from(count) < -i128::from(u64::MAX)
+        self.free() - i128::from(count) < -i128::from(u64::MAX)
     }
 
     /// Takes permits from the free ones, into debt where there are not as many, or changes nothing where that is too much.
@@ -232,7 +239,7 @@ impl Store {
         ensures sound { IsSound self.new }
     {
         if let Some(queue) = &mut self.queue {
-            self.free = queue.settle(self.free);
+            self.free = Balance::of(queue.settle(self.free.get()));
         }
     }
 
@@ -241,7 +248,7 @@ impl Store {
         requires { IsSound self.now }
         ensures { result ≡ self.now.free +ℤ pos (total (line_of self.now).granted + self.now.held) }
     {
-        self.free + i128::from(self.granted_sum()) + i128::from(self.held)
+        self.free() + i128::from(self.granted_sum()) + i128::from(self.held)
     }
 
     fn overflows(&self, count: u64) -> bool
@@ -258,7 +265,7 @@ impl Store {
         ensures state { state_of self.new ≡ record (state_of self.old) { line = give_back count (line_of self.old) } }
         ensures sound { IsSound self.new }
     {
-        self.free += i128::from(count);
+        self.free = Balance::of(self.free() + i128::from(count));
         self.settle();
     }
 
@@ -298,7 +305,7 @@ impl Store {
         self.add(count);
     }
 
-    /// Takes the first that was granted under this slot out of the line, and tells its size.
+    /// Takes the one that was granted under this slot out of the line, and tells its size.
     fn take_granted(&mut self, slot: u64) -> Option<u64>
         requires { IsSound self.old }
         ensures takes { TakesGranted slot (state_of self.old) result (state_of self.new) }
@@ -357,7 +364,7 @@ impl Store {
         ensures kept { IsKept self.new }
     {
         match self.take_granted(slot) {
-            Some(size) => self.free += i128::from(size),
+            Some(size) => self.free = Balance::of(self.free() + i128::from(size)),
             None => self.take_waiting(slot),
         }
     }

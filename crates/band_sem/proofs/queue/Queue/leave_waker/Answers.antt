@@ -1,41 +1,50 @@
-use Rattle.std.proofs.Common.{◌≡◌, ℕ, ap, sym, ◌∙◌, set}
-use Rattle.std.proofs.lemmas.List.{length-set}
+use Rattle.std.proofs.Common.{◌≡◌, ℕ, ◌+◌, ◌-◌, ◌≤◌, get_or, set, drop, arith, refl, ap, sym, ◌∙◌}
+use Rattle.std.proofs.lemmas.List.{get_or-drop}
 use Rattle.band_balance.specs.Line.{Waiting, leave_waker}
-use Rattle.band_balance.proofs.Requests.{entries-leave_waker}
 use Rattle.band_sem.specs.Semaphore.{is_slot}
-use Rattle.band_sem.proofs.Places.{IsFirst-position, leave_waker-first, leave_waker-nowhere, nowhere-position}
+use Rattle.band_sem.proofs.Places.{IsFirst-slot, IsFirst-drop, leave_waker-first, leave_waker-nobody}
+use Rattle.band_sem.proofs.Orderly.{state_at-set_waiting, IsInOrder-set_waiting, waiting_asks}
 use Rattle.band_sem.proofs.queue.Queue.leave_waker.Goals as goal
 
 abbrev with_waker : ℕ → Waiting ℕ → Waiting ℕ
 with_waker waker w = record w { waker = waker }
 
-written : (c : goal.After-self-1) → set c.args.self.now.waiting.items c.in-Some.place c.leave.new.self ≡ leave_waker (is_slot c.args.slot) c.args.waker.0 c.args.self.now.waiting.items
+behind : (granted place : ℕ) → granted ≤ place → granted + (place - granted) ≡ place
+behind granted place le = omega arith
+
+written : (c : goal.After-self-1) → set (drop c.args.self.now.granted c.args.self.now.line.items) (c.in-Some.place - c.args.self.now.granted) c.leave_waker.new.self ≡ leave_waker (is_slot c.args.slot) c.args.waker.0 (drop c.args.self.now.granted c.args.self.now.line.items)
 written c =
-    let ws = c.args.self.now.waiting.items in
-    let d = c.index_mut-request.result.now in
-    let first = IsFirst-position (λ w. is_slot c.args.slot w.name) ws c.in-Some.place d (sym c.place_waiting.ensures ∙ c.in-Some.is) in
-    ap (λ v. set ws c.in-Some.place v) (c.leave.ensures ∙ ap (with_waker c.args.waker.0) c.index_mut-request.ensures.value)
-    ∙ sym (leave_waker-first (is_slot c.args.slot) c.args.waker.0 ws c.in-Some.place d first)
+    let s = c.args.self.now in
+    let i = c.in-Some.place in
+    let d = c.index_mut.result.now in
+    let le = c.in-Some.ensures.some.0 in
+    let place = c.in-Some.ensures.some.1 in
+    let rest = drop s.granted s.line.items in
+    let here : d ≡ get_or rest (i - s.granted) d =
+    c.index_mut.ensures.value ∙ ap (λ j. get_or s.line.items j d) (sym (behind s.granted i le)) ∙ sym (get_or-drop s.granted s.line.items (i - s.granted) d) in
+    let first = IsFirst-drop _ s.line.items s.granted i d le (IsFirst-slot c.args.slot s.line.items i d c.requires.slots_rise place.0 (place.1 d)) in
+    ap (λ v. set rest (i - s.granted) v) (c.leave_waker.ensures ∙ ap (with_waker c.args.waker.0) here)
+    ∙ sym (leave_waker-first (is_slot c.args.slot) c.args.waker.0 rest (i - s.granted) d first)
 
 pub returns-in-Some-clause-state : goal.returns-in-Some-clause-state
 returns-in-Some-clause-state c =
     let s = c.args.self.now in
-    ap (λ ws. record { waiting = ws; granted = s.granted.items; wakes = s.wakes.wakers }) (written c)
+    let place = c.in-Some.ensures.some.1 in
+    state_at-set_waiting s.line.items s.granted s.woken s.granted_sum c.requires c.in-Some.place c.in-Some.ensures.some.0 place.0 c.leave_waker.new.self
+    ∙ rw (written c) refl
 
 pub returns-in-Some-clause-orderly : goal.returns-in-Some-clause-orderly
 returns-in-Some-clause-orderly c =
     let s = c.args.self.now in
-    let same = length-set s.waiting.items c.in-Some.place c.leave.new.self in
-    record {
-      slots_rise = rw (written c, entries-leave_waker (is_slot c.args.slot) c.args.waker.0 s.waiting.items) c.requires.slots_rise;
-      granted_sum = c.requires.granted_sum;
-      grants_fit = rw same c.requires.grants_fit;
-      wakes_fit = rw same c.requires.wakes_fit;
-    }
+    let d = c.index_mut.result.now in
+    let le = c.in-Some.ensures.some.0 in
+    let place = c.in-Some.ensures.some.1 in
+    let asks = waiting_asks s.line.items s.granted s.woken s.granted_sum c.requires c.in-Some.place le place.0 d in
+    IsInOrder-set_waiting s.line.items s.granted s.woken s.granted_sum c.requires c.in-Some.place le place.0 c.leave_waker.new.self d
+    (ap (λ p. p.name) c.leave_waker.ensures ∙ ap (λ p. p.name) c.index_mut.ensures.value)
+    (rw (c.leave_waker.ensures, ap (λ p. p.size) c.index_mut.ensures.value) asks)
 
 pub returns-in_default-clause-state : goal.returns-in_default-clause-state
 returns-in_default-clause-state c =
     let s = c.args.self.now in
-    let nowhere = nowhere-position (λ w. is_slot c.args.slot w.name) s.waiting.items (sym c.place_waiting.ensures ∙ c.in_default.is) in
-    ap (λ ws. record { waiting = ws; granted = s.granted.items; wakes = s.wakes.wakers })
-    (sym (leave_waker-nowhere (is_slot c.args.slot) c.args.waker.0 s.waiting.items nowhere))
+    rw (leave_waker-nobody c.args.slot c.args.waker.0 (drop s.granted s.line.items) c.in_default.ensures.none) refl

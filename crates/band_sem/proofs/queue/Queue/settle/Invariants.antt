@@ -7,9 +7,9 @@ use Rattle.band_sem.proofs.queue.Queue.settle.Given as goal
 abbrev pub invariant-loop-self : goal.invariant-loop-self
 invariant-loop-self l = record {
   same_end : settle (line_at l.free (queue_state l.self)) ≡ settle (line_at l.initial.free (queue_state l.initial.self));
-  in_all : (l.free +ℤ pos (total l.self.granted.items)) ≤ℤ pos u64_max;
+  in_all : (l.free +ℤ pos (total (queue_state l.self).granted)) ≤ℤ pos u64_max;
   orderly : IsOrderly l.self;
 }
 
 abbrev pub decreases-loop-self : goal.decreases-loop-self
-decreases-loop-self l = length l.self.waiting.items
+decreases-loop-self l = length (queue_state l.self).waiting
