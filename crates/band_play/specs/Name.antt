@@ -1,6 +1,6 @@
 -- What a name is: one to thirty-two small letters, digits and underscores.
-use Rattle.std.specs.Prelude.{ℕ, Bool, ◌&&◌, ◌||◌, ◌==◌, nat_le, List, length, IsTrue, Option, Some, None, if◌then◌else◌}
-use Rattle.std.specs.List.{list_all}
+use Rattle.std.specs.Prelude.{ℕ, Bool, ◌-◌, ◌&&◌, ◌||◌, ◌==◌, nat_le, List, ◌++◌, length, replicate, IsTrue, Option, Some, None, if◌then◌else◌}
+use Rattle.std.specs.List.{list_all, before_first}
 
 -- a byte of `a` to `z`, of `0` to `9`, or `_`
 abbrev pub is_name_byte : ℕ → Bool
@@ -16,3 +16,11 @@ IsName word = IsTrue (is_name word)
 -- the name that a word is, if it is one
 unfoldable pub name_of : List ℕ → Option (List ℕ)
 name_of word = if is_name word then Some word else None
+
+-- a name as it is kept: its bytes and then zeros, 32 in all
+abbrev pub padded : List ℕ → List ℕ
+padded name = name ++ replicate (32 - length name) 0
+
+-- the name in such bytes: those before the first 0
+abbrev pub name_in : List ℕ → List ℕ
+name_in bytes = before_first (λ byte. byte == 0) bytes

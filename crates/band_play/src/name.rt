@@ -4,29 +4,34 @@ ghost use Rattle.std.specs.List.{list_all};
 ghost use Rattle.std.specs.Ordering.{nat_cmp};
 ghost use Rattle.std.specs.Cmp.{partial_equiv_from_equiv};
 ghost use Rattle.std.specs.Cmp.Lexicographic.{pointwise, slice_cmp, nat_list_eq_equiv, nat_list_cmp_total, texts_po, texts_ties};
-ghost use Rattle.band_play.specs.Name.{is_name_byte, is_name, IsName, name_of};
+ghost use Rattle.band_play.specs.Name.{is_name_byte, is_name, IsName, name_of, name_in};
 
 use crate::text::text_of;
-use arrayvec::ArrayString;
 use std::alloc::AllocError;
 use std::cmp::Ordering;
+use std::fmt;
 use std::marker::Model;
 
 /// A name: one to thirty-two small letters, digits and underscores.
-#[derive(Debug, Drop)]
+///
+/// It is kept as its bytes and then zeros to the end. No byte of a name is 0, so two names compare as those arrays do.
+#[derive(Drop)]
 pub struct Name {
-    text: ArrayString<32>,
+    bytes: [u8; 32],
 }
 
+// A table of names keeps so many bytes for each.
+const _: () = prove!(size_of::<Name>() == 32);
+
 impl Model for Name {
-    ghost use Rattle.std.specs.Prelude.{ℕ, List};
-    ghost use Rattle.band_play.specs.Name.{IsName};
+    ghost use Rattle.std.specs.Prelude.{◌≡◌, ℕ, List};
+    ghost use Rattle.band_play.specs.Name.{IsName, name_in, padded};
 
     ghost Value = { List ℕ };
 
-    ghost view = { λ name. name.text.bytes };
+    ghost view = { λ name. name_in name.bytes };
 
-    ghost invariant = { λ name. IsName name.text.bytes };
+    ghost invariant = { λ name. IsName (name_in name.bytes) × (name.bytes ≡ padded (name_in name.bytes)) };
 }
 
 impl Name {
@@ -40,9 +45,9 @@ impl Name {
         if !is_name(word) {
             return None;
         }
-        let mut text = ArrayString::new();
-        text.push_str(text_of(word));
-        Some(Name { text })
+        let mut bytes = [0; 32];
+        bytes[..word.len()].copy_from_slice(word);
+        Some(Name { bytes })
     }
 
     /// The text of the name.
@@ -50,8 +55,16 @@ impl Name {
         ensures text { result.now ≡ self.now }
         ensures is_name { IsName result.now }
     {
-        self.text.as_str()
+        text_of(name_in(&self.bytes))
     }
+}
+
+/// The bytes before the first 0, or all of them where none is 0.
+fn name_in(bytes: &[u8]) -> &[u8]
+    ensures { result.now ≡ name_in bytes.now }
+{
+    let zero = bytes.iter().position(|byte| *byte == 0);
+    &bytes[..zero.unwrap_or(bytes.len())]
 }
 
 fn is_name(word: &[u8]) -> bool
@@ -81,7 +94,13 @@ impl Clone for Name {
     ghost is_infallible = { λ _. ⊤ };
 
     fn clone(&self) -> Result<Name, AllocError> {
-        Ok(Name { text: self.text })
+        Ok(Name { bytes: self.bytes })
+    }
+}
+
+impl fmt::Debug for Name {
+    fn fmt<W: fmt::Write>(&self, f: &mut fmt::Formatter<W>) -> fmt::Result {
+        fmt::Debug::fmt(&self.as_str(), f)
     }
 }
 
@@ -91,7 +110,7 @@ impl PartialEq for Name {
     ghost laws = { partial_equiv_from_equiv nat_list_eq_equiv };
 
     fn eq(&self, other: &Self) -> bool {
-        self.as_str() == other.as_str()
+        self.bytes == other.bytes
     }
 }
 
@@ -119,6 +138,6 @@ impl Ord for Name {
     ghost matches_eq = { λ a b. texts_ties a b };
 
     fn cmp(&self, other: &Self) -> Ordering {
-        self.as_str().cmp(other.as_str())
+        self.bytes.cmp(&other.bytes)
     }
 }
