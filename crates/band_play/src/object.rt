@@ -40,6 +40,9 @@ pub(crate) struct Object {
     pub(crate) primitive: Primitive,
 }
 
+// A script keeps so many bytes for each object, beside its name.
+const _: () = prove!(size_of::<Object>() == 64);
+
 impl Model for Object {
     ghost use Rattle.band_play.specs.Objects.{ObjectState, state_of};
 

@@ -43,6 +43,9 @@ pub(crate) struct Token {
     any: AnyToken,
 }
 
+// A script keeps so many bytes for each request or holding, beside its name.
+const _: () = prove!(size_of::<Token>() == 40);
+
 impl Model for Token {
     ghost use Rattle.band_play.specs.Token.{TokenState, token_of};
 
