@@ -22,6 +22,10 @@ use Rattle.band_play.proofs.Standing.{same_bytes}
 sets_of : {X : Type 0} (m n : BTreeMap (List ℕ) X) (k : List ℕ) (w : Option X) → Updates (slice_cmp nat_cmp) m n k w → Sets m n k w
 sets_of m n k w update = record { each = update.0 }
 
+-- what a change of the map inside makes of what it is seen as
+pub sets_seen : {X : Type 0} (m inside n : BTreeMap (List ℕ) X) (k : List ℕ) (w : Option X) → inside ≡ m → Updates (slice_cmp nat_cmp) inside n k w → Sets m n k w
+sets_seen {X} m inside n k w seen update = subst (λ (o : BTreeMap (List ℕ) X). Sets o n k w) seen (sets_of inside n k w update)
+
 -- what a map has after a change
 module _ {X : Type 0} (m n : BTreeMap (List ℕ) X) (k : List ℕ) (w : Option X) (sets : Sets m n k w) (q : List ℕ) where
   at_changed : bytes_eq k q ≡ true → at n q ≡ w
@@ -31,19 +35,21 @@ module _ {X : Type 0} (m n : BTreeMap (List ℕ) X) (k : List ℕ) (w : Option X
   at_kept other = sets.each q ∙ cond_false (is_at (slice_cmp nat_cmp k) q) w (at m q) (is_eq-slice_cmp k q ∙ other)
 
 -- a map that was written at a name
-pub sets_written : {X : Type 0} (m n written : BTreeMap (List ℕ) X) (k : List ℕ) (x y : X) → n ≡ written → x ≡ y → Updates (slice_cmp nat_cmp) m written k (Some x) → Sets m n k (Some y)
-sets_written {X} m n written k x y is same update =
-    subst (λ z. Sets m n k (Some z)) same (subst (λ (o : BTreeMap (List ℕ) X). Sets m o k (Some x)) (sym is) (sets_of m written k (Some x) update))
+pub sets_written : {X : Type 0} (m inside n written : BTreeMap (List ℕ) X) (k : List ℕ) (x y : X) → inside ≡ m → n ≡ written → x ≡ y → Updates (slice_cmp nat_cmp) inside written k (Some x) → Sets m n k (Some y)
+sets_written {X} m inside n written k x y seen is same update =
+    subst (λ z. Sets m n k (Some z)) same (subst (λ (o : BTreeMap (List ℕ) X). Sets m o k (Some x)) (sym is) (sets_seen m inside written k (Some x) seen update))
 
 -- the same entries, the same at each name
 at_same : {X : Type 0} (m n : BTreeMap (List ℕ) X) → IsUnchanged m n → (name : List ℕ) → at n name ≡ at m name
 at_same m n same name = ap (λ es. lookup (is_at (slice_cmp nat_cmp name)) es) same
 
 -- a map from which a name was taken that it didn't have
-pub at_without : (m without n : BTreeMap (List ℕ) TokenState) (k : List ℕ) → at m k ≡ None → Updates (slice_cmp nat_cmp) m without k None → IsUnchanged without n → (q : List ℕ) → at n q ≡ at m q
-at_without m without n k free update same q = at_same without n same q ∙ by_bool (bytes_eq k q)
-    (λ is. at_changed m without k None (sets_of m without k None update) q is ∙ sym (sym (ap (at m) (same_bytes k q is)) ∙ free))
-    (λ other. at_kept m without k None (sets_of m without k None update) q other)
+pub at_without : (m inside without n : BTreeMap (List ℕ) TokenState) (k : List ℕ) → inside ≡ m → at m k ≡ None → Updates (slice_cmp nat_cmp) inside without k None → IsUnchanged without n → (q : List ℕ) → at n q ≡ at m q
+at_without m inside without n k seen free update same q =
+    let sets = sets_seen m inside without k None seen update in
+    at_same without n same q ∙ by_bool (bytes_eq k q)
+    (λ is. at_changed m without k None sets q is ∙ sym (sym (ap (at m) (same_bytes k q is)) ∙ free))
+    (λ other. at_kept m without k None sets q other)
 
 pub if_ok : {A E : Type 0} {P Q : A → Type 0} (r : Result A E) → IfOk r P → ((x : A) → P x → Q x) → IfOk r Q
 if_ok (Ok x) p f = f x p
@@ -133,12 +139,6 @@ module _ (names : Names) (k : List ℕ) where
         → OnErr result ((name : List ℕ) → at tokens name ≡ at names.tokens name) → AreApart names.objects tokens
     apart_added (Ok x) free added same = apart_set added.0 free added.1
     apart_added (Err e) free added same = apart_kept same
-
-    pub token_changed : (w : Option TokenState) → at names.objects k ≡ None → Updates (slice_cmp nat_cmp) names.tokens tokens k w → Updated (thing_at names) (table_of names.objects tokens) k (thing_from None w)
-    token_changed w free update = token_set w free (sets_of names.tokens tokens k w update)
-
-    pub tokens_apart : (w : Option TokenState) → at names.objects k ≡ None → Updates (slice_cmp nat_cmp) names.tokens tokens k w → AreApart names.objects tokens
-    tokens_apart w free update = apart_set w free (sets_of names.tokens tokens k w update)
 
     pub tokens_kept : (thing : Option Thing) → thing_at names k ≡ thing → IsUnchanged names.tokens tokens → Updated (thing_at names) (table_of names.objects tokens) k thing
     tokens_kept thing is same = record {

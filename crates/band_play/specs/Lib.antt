@@ -24,6 +24,7 @@ pub mod Table
 pub mod Text
 pub mod Thing
 pub mod Token
+pub mod Tokens
 pub mod Woken
 pub mod Words
 pub use Rattle.band_balance.specs.Line

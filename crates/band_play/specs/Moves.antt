@@ -1,6 +1,5 @@
 -- What a poll and a drop of a thing make of the semaphores.
 use Rattle.std.specs.Prelude.{◌≡◌, ℕ, Bool, true, false, [], ◌+◌, ◌-◌, ◌<◌, ◌≤◌, ◌==◌, if◌then◌else◌, List, length, Option, Some, None, Result, Ok, Err, slice_get, slice_set}
-use Rattle.std.specs.BTreeMap.{BTreeMap}
 use Rattle.std.specs.Str.{bytes_eq}
 use Rattle.band_balance.specs.Line.{open_line, give_back, u64_max}
 use Rattle.band_base.specs.declared.poll.Poll.{Poll}
@@ -23,11 +22,9 @@ use Rattle.band_play.specs.declared.object.Want.{Want}
 use Rattle.band_play.specs.declared.object.Want.TheVariants as wants
 use Rattle.band_play.specs.declared.reply.Reply.{Reply}
 use Rattle.band_play.specs.declared.reply.Reply.TheVariants as replies
-use Rattle.band_play.specs.Apart.{Sets}
 use Rattle.band_play.specs.Names.{Updated}
 use Rattle.band_play.specs.Thing.{Thing}
 use Rattle.band_play.specs.Thing as things
-use Rattle.band_play.specs.Token.{TokenState, thing_of}
 
 abbrev pub IsJoined : Stage → Type 0
 IsJoined stages.NotPolled = ⊥
@@ -152,6 +149,12 @@ pub record HeldAt (mode : Mode) (found : Option Thing) (place : ℕ) : Type 0 wh
   pub is : held_as mode found ≡ Ok holding
   pub at : place ≡ holding.of
 
+-- it is a permit of so many
+pub record HasCount (found : Option Thing) (count : ℕ) : Type 0 where
+  pub permit : HoldingState
+  pub is : held_as Permit found ≡ Ok permit
+  pub same : count ≡ permit.count
+
 -- the place of the object that a thing is, or is of
 abbrev pub place_at : Thing → ℕ
 place_at (things.Object place) = place
@@ -232,12 +235,6 @@ pub record AsksFirst (place : ℕ) (want : Want) (waker : ℕ) (old : List Objec
   pub kind : object.Kind
   pub there : kind_at (slice_get old place) ≡ Some kind
   pub polls : PollsRequest place (record { mode = mode_of want; of = place; size = size_for want kind; stage = stages.NotPolled }) waker old thing reply new
-
--- a new token is a request of the object at a place that was polled first
-pub record AddsRequest (name : List ℕ) (place : ℕ) (want : Want) (waker : ℕ) (tokens tokens' : BTreeMap (List ℕ) TokenState) (old new : List ObjectState) (reply : Reply) : Type 0 where
-  pub token : TokenState
-  pub asked : AsksFirst place want waker old (thing_of token) reply new
-  pub sets : Sets tokens tokens' name (Some token)
 
 -- a new name is a request of the object at a place that was polled first
 pub record AsksName (name : List ℕ) (place : ℕ) (want : Want) (waker : ℕ) (table table' : List ℕ → Option Thing) (old new : List ObjectState) (reply : Reply) : Type 0 where

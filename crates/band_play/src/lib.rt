@@ -11,7 +11,6 @@ mod laws;
 mod lines;
 mod name;
 mod names;
-mod new_token;
 mod number;
 mod object;
 mod outlet;
@@ -25,6 +24,7 @@ mod script;
 mod table;
 mod text;
 mod token;
+mod tokens;
 mod words;
 
 pub use call::Call;

@@ -2,11 +2,10 @@
 ghost use Rattle.std.proofs.Props.{props};
 ghost use Rattle.band_play.specs.Apart.{AreApart};
 
-use crate::boxed_token::BoxedToken;
 use crate::holding::Holding;
-use crate::new_token::{add_holding, add_part, add_request};
 use crate::object::{Object, Want};
 use crate::token::Token;
+use crate::tokens::Tokens;
 use crate::{Name, Reply};
 use band_base::{Steps, Waker};
 use band_sem::Refusal;
@@ -17,22 +16,21 @@ use std::sync::ledger::Ledger;
 /// What each live name is: an object, by its place, or a token. An object takes no room for a token.
 pub(crate) struct Names {
     objects: BTreeMap<Name, u64>,
-    tokens: BTreeMap<Name, BoxedToken>,
-    alloc: Global,
+    tokens: Tokens,
     ghost apart: { AreApart objects tokens } by { Prim.hlevel props },
 }
 
 impl Names {
     ghost use Rattle.std.specs.Prelude.{◌≡◌, ℕ, ◌+◌, ◌-◌, ◌<◌, ◌≤◌, ◌↔◌, List, length, None, Some, Ok, Err, IsSome, IfSome, IfOk, OnOk, OnErr, IsOk, IsTrue, IfNone, MatchResult, false, option_map};
     ghost use Rattle.band_balance.specs.Line.{is_served, take_permits};
-    ghost use Rattle.band_balance.specs.Object.{Permit, Write};
-    ghost use Rattle.band_play.specs.Objects.{HoldingState, IsSteady};
+    ghost use Rattle.band_balance.specs.Object.{Mode, Permit, Write};
+    ghost use Rattle.band_play.specs.Objects.{IsSteady};
     ghost use Rattle.band_play.specs.Step.{is_of};
     ghost use Rattle.band_play.specs.Thing.{Thing};
     ghost use Rattle.band_play.specs.Thing as things;
     ghost use Rattle.band_play.specs.Token.{ended, thing_of};
     ghost use Rattle.band_play.specs.Names.{thing_at, AreSame, Updated, is_object};
-    ghost use Rattle.band_play.specs.Moves.{IsFit, AsksName, IsOffered, PollsName, mode_of, size_for, object_of, held_as, HeldAt, HasPermits, SplitsTo, CanGrow, Grows, Downgrades};
+    ghost use Rattle.band_play.specs.Moves.{IsFit, AsksName, IsOffered, PollsName, mode_of, size_for, object_of, held_as, HeldAt, HasCount, HasPermits, SplitsTo, CanGrow, Grows, Downgrades};
 
     /// No name.
     pub(crate) fn new(alloc: Global) -> Names
@@ -40,8 +38,7 @@ impl Names {
     {
         Names {
             objects: BTreeMap::new(alloc),
-            tokens: BTreeMap::new(alloc),
-            alloc,
+            tokens: Tokens::new(alloc),
         }
     }
 
@@ -49,7 +46,7 @@ impl Names {
     pub(crate) fn is_live(&self, name: &Name) -> bool
         ensures { IsTrue result ↔ IsSome (thing_at self.now name.now) }
     {
-        self.objects.contains_key(name) || self.tokens.contains_key(name)
+        self.objects.contains_key(name) || self.tokens.contains(name)
     }
 
     /// Whether a name is an object's.
@@ -65,7 +62,20 @@ impl Names {
     {
         match self.objects.get(name) {
             Some(place) => Ok(*place),
-            None if self.tokens.contains_key(name) => Err(Refusal::Kind),
+            None if self.tokens.contains(name) => Err(Refusal::Kind),
+            None => Err(Refusal::Unknown),
+        }
+    }
+
+    /// The token with this name.
+    fn token(&self, name: &Name) -> Result<&Token, Refusal>
+        ensures { MatchResult result
+            (λ token. thing_at self.now name.now ≡ Some (thing_of token.now))
+            (λ refusal. (mode : Mode) → held_as mode (thing_at self.now name.now) ≡ Err refusal) }
+    {
+        match self.tokens.get(name) {
+            Some(token) => Ok(token),
+            None if self.objects.contains_key(name) => Err(Refusal::Kind),
             None => Err(Refusal::Unknown),
         }
     }
@@ -76,11 +86,7 @@ impl Names {
             (λ place. HeldAt Permit (thing_at self.now name.now) place)
             (λ refusal. held_as Permit (thing_at self.now name.now) ≡ Err refusal) }
     {
-        match self.tokens.get(name) {
-            Some(token) => token.get().permit_of(),
-            None if self.objects.contains_key(name) => Err(Refusal::Kind),
-            None => Err(Refusal::Unknown),
-        }
+        self.token(name)?.permit_of()
     }
 
     /// The place of the object of the right to write with this name.
@@ -89,19 +95,18 @@ impl Names {
             (λ place. HeldAt Write (thing_at self.now name.now) place)
             (λ refusal. held_as Write (thing_at self.now name.now) ≡ Err refusal) }
     {
-        match self.tokens.get(name) {
-            Some(token) => token.get().writer_of(),
-            None if self.objects.contains_key(name) => Err(Refusal::Kind),
-            None => Err(Refusal::Unknown),
-        }
+        self.token(name)?.writer_of()
     }
 
     /// How many permits the one with this name has.
-    pub(crate) fn permits(&self, name: &Name) -> u64
-        requires { IsOk (held_as Permit (thing_at self.now name.now)) }
-        ensures { (permit : HoldingState) → held_as Permit (thing_at self.now name.now) ≡ Ok permit → result ≡ permit.count }
+    pub(crate) fn permits(&self, name: &Name) -> Result<u64, Refusal>
+        ensures { MatchResult result
+            (λ count. HasCount (thing_at self.now name.now) count)
+            (λ refusal. held_as Permit (thing_at self.now name.now) ≡ Err refusal) }
     {
-        self.tokens.get(name).unwrap().get().permits()
+        let token = self.token(name)?;
+        token.permit_of()?;
+        Ok(token.permits())
     }
 
     /// Adds a name that isn't live, for the object at a place.
@@ -132,16 +137,7 @@ impl Names {
         ensures ok { IfOk result (λ reply. AsksName name place want waker.0 (thing_at self.old) (thing_at self.new) objects.old.items objects.new.items reply) }
         ensures err { OnErr result (AreSame self.old self.new × (objects.new.items ≡ objects.old.items)) }
     {
-        add_request(
-            &mut self.tokens,
-            self.alloc,
-            objects,
-            place,
-            want,
-            name,
-            waker,
-            steps,
-        )
+        self.tokens.ask(objects, place, want, name, waker, steps)
     }
 
     /// Adds a name that isn't live, for what an object offers and can give without waiting.
@@ -159,7 +155,7 @@ impl Names {
         ensures steady { OnOk result (IsSteady object.new) }
         ensures err { OnErr result (AreSame self.old self.new × (object.new ≡ object.old)) }
     {
-        add_holding(&mut self.tokens, self.alloc, object, want, name)
+        self.tokens.take(object, want, name)
     }
 
     /// Adds a name that isn't live, for `n` of a permit's.
@@ -171,7 +167,7 @@ impl Names {
         ensures parted { OnOk result (permit.new ≡ record permit.old { count = permit.old.count - n }) }
         ensures err { OnErr result (AreSame self.old self.new × (permit.new ≡ permit.old)) }
     {
-        add_part(&mut self.tokens, self.alloc, permit, name, n)
+        self.tokens.add_part(permit, name, n)
     }
 
     /// Moves `n` permits of the one with this name to a new one, and answers the place of their object.
@@ -214,8 +210,7 @@ impl Names {
         ensures before { option_map thing_of result ≡ thing_at self.old name.now }
         ensures updated { Updated (thing_at self.old) (thing_at self.new) name.now None }
     {
-        let token = self.tokens.remove(name)?;
-        Some(token.into_token())
+        self.tokens.remove(name)
     }
 
     /// Polls what a name is, and answers the place of its object and the reply. None where the name isn't live.
@@ -277,14 +272,7 @@ impl Names {
 
     /// Loses every token.
     pub(crate) fn lose(self) {
-        let Names {
-            objects: _,
-            mut tokens,
-            alloc: _,
-        } = self;
-        while let Some((_, token)) = tokens.pop_first() {
-            token.lose();
-        }
-        tokens.destroy_empty();
+        let Names { objects: _, tokens } = self;
+        tokens.lose();
     }
 }

@@ -283,13 +283,14 @@ impl Table {
         ensures works { OnErr result (Works (λ state. splitting (standing name.now state) name.now made n state) self.old) }
         ensures sound { IsSound self.new }
     {
-        if let Err(refusal) = self.names.permit_at(name) {
-            return Ok(Reply::Refused(refusal));
-        }
+        let permits = match self.names.permits(name) {
+            Ok(permits) => permits,
+            Err(refusal) => return Ok(Reply::Refused(refusal)),
+        };
         if self.names.is_live(&made) {
             return Ok(Reply::Refused(Refusal::Taken));
         }
-        if self.names.permits(name) < n {
+        if permits < n {
             return Ok(Reply::Nothing);
         }
         self.last = self.names.split(name, made, n)?;

@@ -9,11 +9,11 @@ invariant_of-self c =
     let free : at c.args.self.now.objects c.args.name ≡ None = free_of_object c.args.self.now c.args.name (ap is_object c.requires.free) in
     record {
       apart =
-          apart_added c.args.self.now c.args.name c.add_part.new.tokens c.add_part.result free
+          apart_added c.args.self.now c.args.name c.add_part.new.self c.add_part.result free
           (if_done c.add_part.result c.add_part.ensures.ok (λ x sets. (_, sets))) c.add_part.ensures.same;
     }
 
 pub returns-clause-ok : goal.returns-clause-ok
 returns-clause-ok c =
     let free : at c.args.self.now.objects c.args.name ≡ None = free_of_object c.args.self.now c.args.name (ap is_object c.requires.free) in
-    on_ok c.add_part.result c.add_part.ensures.ok (λ sets. token_set c.args.self.now c.args.name c.add_part.new.tokens _ free sets)
+    on_ok c.add_part.result c.add_part.ensures.ok (λ sets. token_set c.args.self.now c.args.name c.add_part.new.self _ free sets)

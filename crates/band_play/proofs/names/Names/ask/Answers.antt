@@ -10,15 +10,15 @@ invariant_of-self g c =
     let free : at c.args.self.now.objects c.args.name ≡ None = free_of_object c.args.self.now c.args.name (ap is_object c.requires.free) in
     record {
       apart =
-          apart_added c.args.self.now c.args.name c.add_request.new.tokens c.add_request.result free
-          (if_ok c.add_request.result c.add_request.ensures.ok (λ reply added. (Some added.token, added.sets))) c.add_request.ensures.same;
+          apart_added c.args.self.now c.args.name c.ask.new.self c.ask.result free
+          (if_ok c.ask.result c.ask.ensures.ok (λ reply added. (Some added.0, added.2))) c.ask.ensures.same;
     }
 
 pub returns-clause-ok : goal.returns-clause-ok
 returns-clause-ok g c =
     let free : at c.args.self.now.objects c.args.name ≡ None = free_of_object c.args.self.now c.args.name (ap is_object c.requires.free) in
-    if_ok c.add_request.result c.add_request.ensures.ok (λ reply added. record {
-      left = thing_of added.token;
-      asked = added.asked;
-      updated = token_set c.args.self.now c.args.name c.add_request.new.tokens (Some added.token) free added.sets;
+    if_ok c.ask.result c.ask.ensures.ok (λ reply added. record {
+      left = thing_of added.0;
+      asked = added.1;
+      updated = token_set c.args.self.now c.args.name c.ask.new.self (Some added.0) free added.2;
     })

@@ -1,17 +1,14 @@
 use Rattle.std.proofs.Common.{◌≡◌, ◌<◌, length, Some, refl, ap, ap₂, sym, ◌∙◌, subst, arith, rules}
 use Rattle.std.specs.List.{slice_get, slice_set}
-use Rattle.std.specs.BTreeMap.{Updates}
-use Rattle.std.specs.Ordering.{nat_cmp}
-use Rattle.std.specs.Cmp.Lexicographic.{slice_cmp}
 use Rattle.std.proofs.lemmas.Option.{slice_get_read, slice_get_within, same_Some}
 use Rattle.band_balance.specs.Object.{Write}
-use Rattle.band_play.specs.Apart.{at as at_name}
+use Rattle.band_play.specs.Apart.{at as at_name, Sets}
 use Rattle.band_play.specs.Objects.{ObjectState, IsSteady, Fits}
 use Rattle.band_play.specs.Thing as things
 use Rattle.band_play.specs.Token.{TokenState, Holding, thing_of}
 use Rattle.band_play.specs.Moves.{held_as}
 use Rattle.band_play.proofs.Permitting.{permit_from, permit_there}
-use Rattle.band_play.proofs.Updates.{no_object, token_there, token_changed, tokens_apart}
+use Rattle.band_play.proofs.Updates.{no_object, token_there, token_set, apart_set}
 use Rattle.band_play.proofs.names.Names.downgrade.Goals as goal
 
 pub index_mut-requires : goal.index_mut-requires
@@ -73,8 +70,8 @@ invariant_of-self g c =
     let was : at_name c.args.self.now.tokens c.args.name.now ≡ Some c.take.result = search rules in
     record {
       apart =
-          tokens_apart c.args.self.now c.args.name.now (c.get_mut.follows.lender c.fill.new.self) (Some c.fill.new.self) (no_object c.args.self.now c.args.name.now c.take.result was)
-          ((c.get_mut.follows.holds c.fill.new.self).3 (search rules));
+          apart_set c.args.self.now c.args.name.now (c.get_mut.follows.lender c.fill.new.self) (Some c.fill.new.self) (no_object c.args.self.now c.args.name.now c.take.result was)
+          (c.get_mut.follows.holds c.fill.new.self (search rules));
     }
 
 pub returns : goal.returns
@@ -100,7 +97,7 @@ returns g c =
         lawful = subst (λ (s : ObjectState). IsSteady s) c.downgrade_at-reader.ensures.state c.downgrade_at-reader.ensures.steady;
       };
       updated =
-          token_changed c.args.self.now c.args.name.now (c.get_mut.follows.lender c.fill.new.self) _ (no_object c.args.self.now c.args.name.now c.take.result was)
-          (subst (λ (t : TokenState). Updates (slice_cmp nat_cmp) c.args.self.now.tokens (c.get_mut.follows.lender c.fill.new.self) c.args.name.now (Some t)) (c.fill.ensures ∙ c.of_holding.ensures ∙ ap Holding c.downgrade_at-reader.ensures.reader)
-          ((c.get_mut.follows.holds c.fill.new.self).3 (search rules)));
+          token_set c.args.self.now c.args.name.now (c.get_mut.follows.lender c.fill.new.self) _ (no_object c.args.self.now c.args.name.now c.take.result was)
+          (subst (λ (t : TokenState). Sets c.args.self.now.tokens (c.get_mut.follows.lender c.fill.new.self) c.args.name.now (Some t)) (c.fill.ensures ∙ c.of_holding.ensures ∙ ap Holding c.downgrade_at-reader.ensures.reader)
+          (c.get_mut.follows.holds c.fill.new.self (search rules)));
     }

@@ -1,12 +1,9 @@
 use Rattle.std.proofs.Common.{◌≡◌, ◌+◌, Some, ap, ◌∙◌, subst, rules}
-use Rattle.std.specs.BTreeMap.{Updates}
-use Rattle.std.specs.Ordering.{nat_cmp}
-use Rattle.std.specs.Cmp.Lexicographic.{slice_cmp}
 use Rattle.band_balance.specs.Object.{Permit}
-use Rattle.band_play.specs.Apart.{at}
+use Rattle.band_play.specs.Apart.{at, Sets}
 use Rattle.band_play.specs.Token.{TokenState, Holding}
 use Rattle.band_play.specs.Moves.{held_as}
-use Rattle.band_play.proofs.Updates.{no_object, token_there, token_changed, tokens_apart}
+use Rattle.band_play.proofs.Updates.{no_object, token_there, token_set, apart_set}
 use Rattle.band_play.proofs.names.Names.grow.Goals as goal
 
 pub invariant_of-self : goal.invariant_of-self
@@ -14,8 +11,8 @@ invariant_of-self c =
     let was : at c.args.self.now.tokens c.args.name.now ≡ Some c.take.result = search rules in
     record {
       apart =
-          tokens_apart c.args.self.now c.args.name.now (c.get_mut.follows.lender c.fill.new.self) (Some c.fill.new.self) (no_object c.args.self.now c.args.name.now c.take.result was)
-          ((c.get_mut.follows.holds c.fill.new.self).3 (search rules));
+          apart_set c.args.self.now c.args.name.now (c.get_mut.follows.lender c.fill.new.self) (Some c.fill.new.self) (no_object c.args.self.now c.args.name.now c.take.result was)
+          (c.get_mut.follows.holds c.fill.new.self (search rules));
     }
 
 pub returns : goal.returns
@@ -26,7 +23,7 @@ returns c =
       whole = c.into_permit-permit.result;
       was = ap (held_as Permit) (token_there c.args.self.now c.args.name.now c.take.result was) ∙ c.into_permit-permit.ensures;
       updated =
-          token_changed c.args.self.now c.args.name.now (c.get_mut.follows.lender c.fill.new.self) _ (no_object c.args.self.now c.args.name.now c.take.result was)
-          (subst (λ (t : TokenState). Updates (slice_cmp nat_cmp) c.args.self.now.tokens (c.get_mut.follows.lender c.fill.new.self) c.args.name.now (Some t)) left
-          ((c.get_mut.follows.holds c.fill.new.self).3 (search rules)));
+          token_set c.args.self.now c.args.name.now (c.get_mut.follows.lender c.fill.new.self) _ (no_object c.args.self.now c.args.name.now c.take.result was)
+          (subst (λ (t : TokenState). Sets c.args.self.now.tokens (c.get_mut.follows.lender c.fill.new.self) c.args.name.now (Some t)) left
+          (c.get_mut.follows.holds c.fill.new.self (search rules)));
     }

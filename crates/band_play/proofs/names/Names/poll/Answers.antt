@@ -1,11 +1,8 @@
 use Rattle.std.proofs.Common.{◌≡◌, Some, refl, subst, rules}
-use Rattle.std.specs.BTreeMap.{Updates}
-use Rattle.std.specs.Ordering.{nat_cmp}
-use Rattle.std.specs.Cmp.Lexicographic.{slice_cmp}
-use Rattle.band_play.specs.Apart.{at}
+use Rattle.band_play.specs.Apart.{at, Sets}
 use Rattle.band_play.specs.Thing as things
 use Rattle.band_play.specs.Token.{thing_of}
-use Rattle.band_play.proofs.Updates.{no_object, token_there, token_changed, tokens_apart, tokens_kept, object_there}
+use Rattle.band_play.proofs.Updates.{no_object, token_there, token_set, apart_set, tokens_kept, object_there}
 use Rattle.band_play.proofs.names.Names.poll.Goals as goal
 
 pub poll-token-requires : goal.poll-token-requires
@@ -18,8 +15,8 @@ invariant_of-self g c =
     let was : at c.args.self.now.tokens c.args.name.now ≡ Some c.take-token.result = search rules in
     record {
       apart =
-          tokens_apart c.args.self.now c.args.name.now (c.get_mut.follows.lender c.fill.new.self) (Some c.fill.new.self) (no_object c.args.self.now c.args.name.now c.take-token.result was)
-          ((c.get_mut.follows.holds c.fill.new.self).3 (search rules));
+          apart_set c.args.self.now c.args.name.now (c.get_mut.follows.lender c.fill.new.self) (Some c.fill.new.self) (no_object c.args.self.now c.args.name.now c.take-token.result was)
+          (c.get_mut.follows.holds c.fill.new.self (search rules));
     }
 
 pub returns-in-Some-clause-some : goal.returns-in-Some-clause-some
@@ -32,9 +29,9 @@ returns-in-Some-clause-some g c =
       at = c.place-place.ensures;
       polled = c.poll-token.ensures;
       updated =
-          token_changed c.args.self.now c.args.name.now (c.get_mut.follows.lender c.fill.new.self) (Some c.poll-token.result.0) (no_object c.args.self.now c.args.name.now c.take-token.result was)
-          (subst (λ w. Updates (slice_cmp nat_cmp) c.args.self.now.tokens (c.get_mut.follows.lender c.fill.new.self) c.args.name.now (Some w)) c.fill.ensures
-          ((c.get_mut.follows.holds c.fill.new.self).3 (search rules)));
+          token_set c.args.self.now c.args.name.now (c.get_mut.follows.lender c.fill.new.self) (Some c.poll-token.result.0) (no_object c.args.self.now c.args.name.now c.take-token.result was)
+          (subst (λ w. Sets c.args.self.now.tokens (c.get_mut.follows.lender c.fill.new.self) c.args.name.now (Some w)) c.fill.ensures
+          (c.get_mut.follows.holds c.fill.new.self (search rules)));
     }
 
 pub returns-in_ok-place-in-None-clause-some : goal.returns-in_ok-place-in-None-clause-some

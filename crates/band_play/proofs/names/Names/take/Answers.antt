@@ -9,11 +9,11 @@ invariant_of-self c =
     let free : at c.args.self.now.objects c.args.name ≡ None = free_of_object c.args.self.now c.args.name (ap is_object c.requires.free) in
     record {
       apart =
-          apart_added c.args.self.now c.args.name c.add_holding.new.tokens c.add_holding.result free
-          (if_done c.add_holding.result c.add_holding.ensures.ok (λ x sets. (_, sets))) c.add_holding.ensures.same;
+          apart_added c.args.self.now c.args.name c.take.new.self c.take.result free
+          (if_done c.take.result c.take.ensures.ok (λ x sets. (_, sets))) c.take.ensures.same;
     }
 
 pub returns-clause-ok : goal.returns-clause-ok
 returns-clause-ok c =
     let free : at c.args.self.now.objects c.args.name ≡ None = free_of_object c.args.self.now c.args.name (ap is_object c.requires.free) in
-    on_ok c.add_holding.result c.add_holding.ensures.ok (λ sets. token_set c.args.self.now c.args.name c.add_holding.new.tokens _ free sets)
+    on_ok c.take.result c.take.ensures.ok (λ sets. token_set c.args.self.now c.args.name c.take.new.self _ free sets)

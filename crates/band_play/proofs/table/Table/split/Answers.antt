@@ -20,17 +20,17 @@ returns-in-Err-clause-follows c =
 
 pub returns-then-is_live-clause-follows : goal.returns-then-is_live-clause-follows
 returns-then-is_live-clause-follows c =
-    let permit = c.in_default.ensures.holding in
-    let is : thing_at c.args.self.now.names c.args.name.now ≡ Some (things.Holding permit) = (permit_from Permit _ permit c.in_default.ensures.is).0 in
+    let permit = c.in-Ok.ensures.permit in
+    let is : thing_at c.args.self.now.names c.args.name.now ≡ Some (things.Holding permit) = (permit_from Permit _ permit c.in-Ok.ensures.is).0 in
     let sem = permit_there _ permit (fits_in c.args.self.now c.args.name.now (things.Holding permit) c.requires.sound is) in
     let thing = some_of (thing_at c.args.self.now.names c.args.made) (c.is_live.ensures.0 c.if-is_live.true) in
     refuses c.args.self.now c.requires.sound c.requires.quiet (λ state. splitting (standing c.args.name.now state) c.args.name.now c.args.made c.args.n state) refusals.Taken c.args.self.now (λ n. refl) refl
-    (λ names state stands. split_taken names _ _ state stands c.args.name.now permit sem.0 is (mode_same Permit permit.mode (permit_from Permit _ permit c.in_default.ensures.is).1) sem.1 (quiet_there c.args.self.now c.requires.sound c.requires.quiet permit.of sem.0 sem.1) c.args.made c.args.n thing.0 thing.1)
+    (λ names state stands. split_taken names _ _ state stands c.args.name.now permit sem.0 is (mode_same Permit permit.mode (permit_from Permit _ permit c.in-Ok.ensures.is).1) sem.1 (quiet_there c.args.self.now c.requires.sound c.requires.quiet permit.of sem.0 sem.1) c.args.made c.args.n thing.0 thing.1)
 
 pub returns-then-permits-n-clause-follows : goal.returns-then-permits-n-clause-follows
 returns-then-permits-n-clause-follows c =
-    let permit = c.in_default.ensures.holding in
-    let held = permit_from Permit _ permit c.in_default.ensures.is in
+    let permit = c.in-Ok.ensures.permit in
+    let held = permit_from Permit _ permit c.in-Ok.ensures.is in
     let is : thing_at c.args.self.now.names c.args.name.now ≡ Some (things.Holding permit) = held.0 in
     let mode_is = mode_same Permit permit.mode held.1 in
     let sem = permit_there _ permit (fits_in c.args.self.now c.args.name.now (things.Holding permit) c.requires.sound is) in
@@ -38,7 +38,7 @@ returns-then-permits-n-clause-follows c =
     shows c.args.self.now c.requires.sound c.requires.quiet (λ state. splitting (standing c.args.name.now state) c.args.name.now c.args.made c.args.n state) replies.Nothing
     c.args.self.now permit.of sem.0 sem.1 (λ n. refl) refl
     (λ names state stands. split_fails names _ _ state stands c.args.name.now permit sem.0 is mode_is sem.1 (quiet_there c.args.self.now c.requires.sound c.requires.quiet permit.of sem.0 sem.1) c.args.made c.args.n
-    (subst (λ k. k < c.args.n) (c.permits.ensures permit c.in_default.ensures.is) (search rules)) absent)
+    (subst (λ k. k < c.args.n) c.in-Ok.ensures.same (search rules)) absent)
 
 pub returns-in_err-self-clause-err : goal.returns-in_err-self-clause-err
 returns-in_err-self-clause-err c =
@@ -97,11 +97,11 @@ returns-clause-sound c =
 
 pub returns-in_err-self-clause-works : goal.returns-in_err-self-clause-works
 returns-in_err-self-clause-works c =
-    let permit = c.in_default.ensures.holding in
-    let held = permit_from Permit _ permit c.in_default.ensures.is in
+    let permit = c.in-Ok.ensures.permit in
+    let held = permit_from Permit _ permit c.in-Ok.ensures.is in
     let is : thing_at c.args.self.now.names c.args.name.now ≡ Some (things.Holding permit) = held.0 in
     let mode_is = mode_same Permit permit.mode held.1 in
     let sem = permit_there _ permit (fits_in c.args.self.now c.args.name.now (things.Holding permit) c.requires.sound is) in
     let absent : thing_at c.args.self.now.names c.args.made ≡ None = (none_from _ c.is_live.result c.is_live.ensures.1 c.if-is_live.false) in
     on_err c.from_residual.result _ (λ state stands. split_works stands.0 _ _ state stands.1 c.args.name.now permit sem.0 is mode_is sem.1 (quiet_there c.args.self.now c.requires.sound c.requires.quiet permit.of sem.0 sem.1) c.args.made c.args.n
-    (subst (λ k. c.args.n ≤ k) (c.permits.ensures permit c.in_default.ensures.is) (search rules)) absent)
+    (subst (λ k. c.args.n ≤ k) c.in-Ok.ensures.same (search rules)) absent)

@@ -1,5 +1,5 @@
 use Rattle.std.specs.BTreeMap.{btree_map_len}
-use Rattle.band_play.proofs.names.Names.lose.Given as goal
+use Rattle.band_play.proofs.tokens.Tokens.lose.Given as goal
 
 abbrev pub decreases-loop-token : goal.decreases-loop-token
-decreases-loop-token l = btree_map_len l.tokens
+decreases-loop-token l = btree_map_len l.map
