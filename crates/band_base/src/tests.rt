@@ -1,7 +1,9 @@
 //! What no clause says: that calls succeed, the texts of the errors, and the standard streams.
-ghost use Rattle.std.specs.Prelude.{◌≡◌, ◌<◌};
+ghost use Rattle.std.specs.Prelude.{◌≡◌, ◌<◌, ◌≤◌, IfOk};
 
 use super::*;
+use std::io;
+use std::io::{Read, Write};
 use std::marker::Brand;
 use std::sync::ledger::{Blank, Ledger};
 use std::test::Fail;
@@ -38,6 +40,7 @@ fn wakes_the_oldest_first(rt: HostRuntime) -> Result<(), Fail> {
 fn same_number_same_waker(rt: HostRuntime) {
     assert!(rt; Waker(3).will_wake(&Waker(3)));
     assert!(rt; !Waker(3).will_wake(&Waker(4)));
+    assert!(rt; Waker(3) == Waker(3) && Waker(3) != Waker(4));
 }
 
 #[test]
@@ -96,6 +99,79 @@ fn a_sink_fails_at_its_calls(rt: HostRuntime) -> Result<(), Fail> {
     assert_eq!(rt; write_through(&mut sink, b"abc")?, 2);
     assert!(rt; matches!(write_through(&mut sink, b"c"), Err(SinkError::Failed)));
     assert_eq!(rt; write_through(&mut sink, b"c")?, 1);
+    assert_eq!(rt; sink.bytes(), b"abc".as_slice());
+    Ok(())
+}
+
+/// A reader or a writer whose first call is interrupted, and which from then on gives or takes a byte a call.
+#[derive(Drop)]
+struct InterruptedOnce {
+    calls: u8,
+}
+
+impl InterruptedOnce {
+    fn moves_one(&mut self, room: usize) -> io::Result<usize>
+        ensures { IfOk result (λ n. n ≤ room) }
+    {
+        self.calls = self.calls.saturating_add(1);
+        if self.calls == 1 {
+            return Err(io::Error::from(io::ErrorKind::Interrupted));
+        }
+        Ok(room.min(1))
+    }
+}
+
+impl Read for InterruptedOnce {
+    fn read(&mut self, buf: &mut [u8]) -> io::Result<usize> {
+        self.moves_one(buf.len())
+    }
+}
+
+impl Write for InterruptedOnce {
+    fn write(&mut self, buf: &[u8]) -> io::Result<usize> {
+        self.moves_one(buf.len())
+    }
+
+    fn flush(&mut self) -> io::Result<()> {
+        Ok(())
+    }
+}
+
+#[test]
+fn an_interrupted_read_is_a_fault_and_not_tried_again(rt: HostRuntime) -> Result<(), Fail> {
+    let mut source = ReaderSource::new(InterruptedOnce { calls: 0 });
+    assert!(rt; read_through(&mut source, &mut [0; 4]).is_err());
+    assert_eq!(rt; source.faults(), 1);
+    assert_eq!(rt; read_through(&mut source, &mut [0; 4])?, 1);
+    assert_eq!(rt; source.faults(), 1);
+    Ok(())
+}
+
+#[test]
+fn an_interrupted_write_is_a_fault_and_not_tried_again(rt: HostRuntime) -> Result<(), Fail> {
+    let mut sink = WriterSink::new(InterruptedOnce { calls: 0 });
+    assert!(rt; matches!(write_through(&mut sink, b"ab"), Err(SinkError::Failed)));
+    assert_eq!(rt; sink.faults(), 1);
+    assert_eq!(rt; write_through(&mut sink, b"ab")?, 1);
+    assert_eq!(rt; sink.faults(), 1);
+    Ok(())
+}
+
+#[test]
+fn a_writer_that_takes_nothing_is_at_fault(rt: HostRuntime) -> Result<(), Fail> {
+    let mut room = [0u8; 3];
+    let mut sink = WriterSink::new(room.as_mut_slice());
+    write_all(&mut sink, b"abc")?;
+    assert!(rt; matches!(write_through(&mut sink, b"d"), Err(SinkError::Failed)));
+    assert_eq!(rt; sink.faults(), 1);
+    Ok(())
+}
+
+#[test]
+fn a_whole_text_is_written_in_parts(rt: HostRuntime) -> Result<(), Fail> {
+    let mut sink = FailingOut::new(rt.alloc(), 2, &[3]);
+    write_all(&mut sink, b"abc")?;
+    assert!(rt; matches!(write_all(&mut sink, b"de"), Err(SinkError::Failed)));
     assert_eq!(rt; sink.bytes(), b"abc".as_slice());
     Ok(())
 }

@@ -1,3 +1,4 @@
+pub mod Held
 pub mod Lawful
 pub mod Laws
 pub mod Line
@@ -6,3 +7,4 @@ pub mod Own
 pub mod Parts
 pub mod Places
 pub mod Slots
+pub mod Whole

@@ -2,8 +2,7 @@
 use Rattle.std.specs.Prelude.{◌≡◌, ℕ, false, List, [], ◌∷◌, ◌++◌, map, pos, ◌+ℤ◌, None, ◌⊎◌}
 use Rattle.std.specs.List.{AllByRecursion}
 use Rattle.band_balance.specs.Line.{Entry, Waiting, Line, entry_of, requests, total, entry_named, without, without_waiting}
-use Rattle.band_sem.specs.declared.acquire.Stage.{Stage}
-use Rattle.band_sem.specs.declared.acquire.Stage.TheVariants.{NotPolled, Joined, Finished}
+use Rattle.band_sem.specs.Request.{Stage, NotPolled, Joined, Finished}
 use Rattle.band_sem.specs.Semaphore.{SemaphoreState, is_slot}
 
 -- some of the entries, in the same order

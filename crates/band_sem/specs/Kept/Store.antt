@@ -9,8 +9,8 @@ use Rattle.band_sem.specs.declared.store.Store.{Store}
 use Rattle.band_sem.specs.declared.store.Entrance.{Entrance}
 use Rattle.band_sem.specs.declared.store.Entrance.TheVariants.{Served, Joined}
 use Rattle.band_balance.specs.Settled.{HeadWaits}
-use Rattle.band_sem.specs.Queue.{QueueState, queue_state, empty_queue, line_at, IsOrderly}
-use Rattle.band_sem.specs.Semaphore.{SemaphoreState, is_slot}
+use Rattle.band_sem.specs.Kept.Queue.{QueueState, queue_state, empty_queue, line_at, IsOrderly}
+use Rattle.band_sem.specs.Semaphore.{SemaphoreState, is_slot, taken, joined, received, with_waker}
 
 -- a queue that was not made yet has nobody
 abbrev pub queue_of : Option (Box Queue Global) → QueueState
@@ -43,28 +43,28 @@ pub record IsSound (store : Store) : Type 0 where
 abbrev pub JoinsLine : ℕ → ℕ → SemaphoreState → Result ℕ AllocError → SemaphoreState → Type 0
 JoinsLine size waker old (Ok slot) new =
     (entry_named (is_slot slot) (requests old.line) ≡ None)
-    × (new ≡ record old { line = join slot size waker old.line })
+    × (new ≡ joined slot size waker old)
 JoinsLine size waker old (Err error) new = new ≡ old
 
 -- a first poll
 abbrev pub Enters : ℕ → ℕ → SemaphoreState → Result Entrance AllocError → SemaphoreState → Type 0
 Enters size waker old (Ok Served) new =
     IsTrue (is_served size old.line)
-    × (new ≡ record old { line = take_permits size old.line; held = old.held + size })
+    × (new ≡ taken size old)
 Enters size waker old (Ok (Joined slot)) new =
     (is_served size old.line ≡ false)
     × (entry_named (is_slot slot) (requests old.line) ≡ None)
-    × (new ≡ record old { line = join slot size waker old.line })
+    × (new ≡ joined slot size waker old)
 Enters size waker old (Err error) new = (is_served size old.line ≡ false) × (new ≡ old)
 
 -- a later poll, which answers how many permits it takes if it was granted
 abbrev pub PollsSlot : ℕ → ℕ → SemaphoreState → Option ℕ → SemaphoreState → Type 0
 PollsSlot slot waker old (Some size) new =
     (entry_named (is_slot slot) old.line.granted ≡ Some (record { name = slot; size = size }))
-    × (new ≡ record old { line = poll_granted (is_slot slot) old.line; held = old.held + size })
+    × (new ≡ received slot size old)
 PollsSlot slot waker old None new =
     (entry_named (is_slot slot) old.line.granted ≡ None)
-    × (new ≡ record old { line = poll_waiting (is_slot slot) waker old.line })
+    × (new ≡ with_waker slot waker old)
 
 -- one that was granted leaves the line, and the answer is its size
 abbrev pub TakesGranted : ℕ → SemaphoreState → Option ℕ → SemaphoreState → Type 0
