@@ -1,8 +1,12 @@
 use Rattle.std.specs.Prelude.{ℕ}
-use Rattle.band_sem.specs.Semaphore.{SemaphoreState}
+use Rattle.band_sem.specs.Semaphore.{SemaphoreState, new_state}
 
 -- what a contract sees of a reader-writer lock: the most readers at a time, and its shares, of which a reader has one and a
 -- writer has all
 pub record ReaderWriter : Type 0 where
   pub max : ℕ
   pub shares : SemaphoreState
+
+-- one for so many readers at a time, which nobody has
+abbrev pub new_lock : ℕ → ℕ → ReaderWriter
+new_lock number max = record { max = max; shares = new_state number max }

@@ -11,7 +11,7 @@ use Rattle.band_base.specs.declared.poll.PollError.TheVariants as errors
 use Rattle.band_base.specs.declared.waker.Waker.{Waker}
 use Rattle.band_sem.specs.Permit.{Permit}
 use Rattle.band_sem.specs.Request.{Request, Stage, NotPolled, Joined, Finished}
-use Rattle.band_sem.specs.Semaphore.{SemaphoreState, IsOwn, Polls, PollsAt, TakesWake, taken, given_back, released, reduced, forgotten, cancelled, is_slot}
+use Rattle.band_sem.specs.Semaphore.{SemaphoreState, IsOwn, AreApart, Polls, PollsAt, TakesWake, taken, given_back, released, reduced, forgotten, cancelled, is_slot}
 
 same_slot : (slot : ℕ) → nat_eq slot slot ≡ true
 same_slot slot = grind (arith, nat_tests)
@@ -55,11 +55,6 @@ IsOwn-same : (stage : Stage) (size : ℕ) (old new : Line ℕ) → requests new 
 IsOwn-same NotPolled size old new same own = tt
 IsOwn-same (Joined slot) size old new same own = ap (entry_named (is_slot slot)) same ∙ own
 IsOwn-same Finished size old new same own = tt
-
--- two requests don't have one slot
-abbrev pub AreApart : Stage → Stage → Type 0
-AreApart (Joined mine) (Joined other) = nat_eq mine other ≡ false
-AreApart mine other = Unit {0}
 
 -- What calls for others leave of one's own place.
 module _ (mine : Request) (old new : SemaphoreState) (own : IsOwn mine.stage mine.size old.line) where

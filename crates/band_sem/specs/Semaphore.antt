@@ -86,6 +86,11 @@ IsOwn NotPolled size line = Unit {0}
 IsOwn (Joined slot) size line = entry_named (is_slot slot) (requests line) ≡ Some (record { name = slot; size = size })
 IsOwn Finished size line = Unit {0}
 
+-- two requests don't have one slot
+abbrev pub AreApart : Stage → Stage → Type 0
+AreApart (Joined mine) (Joined other) = (mine == other) ≡ false
+AreApart mine other = Unit {0}
+
 abbrev pub finished : Request → Request
 finished request = record request { stage = Finished }
 

@@ -34,7 +34,8 @@ impl Model for Semaphore {
 impl Semaphore {
     /// A semaphore of `permits`, which tokens know by `number`.
     pub fn new(alloc: Global, number: u64, permits: u64) -> Semaphore
-        ensures { result ≡ new_state number permits }
+        ensures start { result ≡ new_state number permits }
+        ensures lawful { IsLawful result }
     {
         Semaphore {
             store: Store::new(alloc, number, permits),
