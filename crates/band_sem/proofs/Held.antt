@@ -14,6 +14,10 @@ pub record KeepsHeld (old new : SemaphoreState) : Type 0 where
   pub number : new.number ≡ old.number
   pub held : old.held ≤ new.held
 
+-- one call after another
+pub KeepsHeld-then : (old mid new : SemaphoreState) → KeepsHeld old mid → KeepsHeld mid new → KeepsHeld old new
+KeepsHeld-then old mid new p q = record { number = q.number ∙ p.number; held = omega (arith, p.held, q.held) }
+
 module _ (old new : SemaphoreState) where
   keeps : (state : SemaphoreState) → new ≡ state → state.number ≡ old.number → old.held ≤ state.held → KeepsHeld old new
   keeps state is number held = record { number = ap (λ (s : SemaphoreState). s.number) is ∙ number; held = rw is held }

@@ -16,13 +16,21 @@ pub fn another_comes_and_goes<L: Ledger>(mine: &Acquire, sem: &mut Semaphore, st
     }
 }
 
-/// Permits are added and taken away again.
-pub fn permits_come_and_go<L: Ledger>(mine: &Acquire, sem: &mut Semaphore, steps: &mut Steps<L>)
+/// Permits are added and taken away again, and the answer tells whether both were done.
+pub fn permits_come_and_go<L: Ledger>(
+    mine: &Acquire,
+    sem: &mut Semaphore,
+    steps: &mut Steps<L>,
+) -> bool
     requires { IsOwn mine.now.stage mine.now.size sem.old.line }
     ensures { IsOwn mine.now.stage mine.now.size sem.new.line }
 {
-    if sem.release(1, steps).is_ok() {
-        let _ = sem.reduce_permits(1, steps);
+    match sem.release(1, steps) {
+        Ok(()) => match sem.reduce_permits(1, steps) {
+            Ok(()) => true,
+            Err(_) => false,
+        },
+        Err(_) => false,
     }
 }
 
@@ -55,11 +63,25 @@ pub fn another_asks<L: Ledger>(
     answer
 }
 
-/// Two permits of one semaphore: while another asks and gives up, both stay held, and each can be given back.
+/// Another asks once more and gives up, and the oldest waker is taken: no fewer permits are held.
+pub fn another_gives_up<L: Ledger>(mut other: Acquire, sem: &mut Semaphore, steps: &mut Steps<L>)
+    requires number { other.of ≡ sem.old.number }
+    requires own { IsOwn other.stage other.size sem.old.line }
+    ensures number { sem.new.number ≡ sem.old.number }
+    ensures held { sem.old.held ≤ sem.new.held }
+{
+    if let Ok(Poll::Ready(permit)) = other.poll_once(sem, Waker(0), steps) {
+        permit.lose();
+    }
+    other.cancel(sem, steps);
+    let _ = sem.take_wake();
+}
+
+/// Two permits of one semaphore: whatever another asks, both stay held, and each can be given back.
 pub fn gives_both_back<L: Ledger>(
     one: SemaphorePermit,
     two: SemaphorePermit,
-    mut other: Acquire,
+    other: Acquire,
     sem: &mut Semaphore,
     steps: &mut Steps<L>,
 )
@@ -69,12 +91,7 @@ pub fn gives_both_back<L: Ledger>(
     requires number { other.of ≡ sem.old.number }
     requires own { IsOwn other.stage other.size sem.old.line }
 {
-    let answer = other.poll_once(sem, Waker(0), steps);
-    if let Ok(Poll::Ready(permit)) = answer {
-        permit.lose();
-    }
-    other.cancel(sem, steps);
-    let _ = sem.take_wake();
+    another_gives_up(other, sem, steps);
     sem.drop_permit(one, steps);
     sem.drop_permit(two, steps);
 }
