@@ -2,7 +2,7 @@
 ghost use Rattle.std.specs.Prelude.{◌≡◌, ℕ, ◌<◌, ◌≤◌, min, List, [], ◌++◌, take, length, Bool, true, false, Option, Some, IfOk, IfErr, OnOk, OnErr, MatchResult, IsTrue, ◌↔◌};
 ghost use Rattle.std.specs.Io.KnownBytes.{Appends, Keeps};
 ghost use Rattle.band_base.specs.Device.{Rose, one_fault_more, AppendsPrefix};
-ghost use Rattle.band_base.specs.Failing.{fails_next, counted};
+ghost use Rattle.band_base.specs.Failing.{new_calls, fails_next, counted};
 
 use crate::failures::Failures;
 use std::alloc::Global;
@@ -122,7 +122,7 @@ impl<'a> FailingOut<'a> {
     /// `fail`. No call fails once more than the largest `u64` were made.
     pub fn new(alloc: Global, most: usize, fail: &'a [u64]) -> FailingOut<'a>
         requires { 0 < most }
-        ensures { result ≡ record { written = []; most = most; calls = record { fail = fail.now; made = 0; failed = 0 } } }
+        ensures { result ≡ record { written = []; most = most; calls = new_calls fail.now } }
     {
         FailingOut {
             taken: Vec::new(alloc),
@@ -217,7 +217,8 @@ impl<W: Write> Sink for WriterSink<W> {
     fn write(&mut self, piece: &[u8]) -> Result<usize, SinkError>
         ensures count { IfOk result (λ n. n ≤ length piece.now) }
         ensures some { IfOk result (λ n. 0 < length piece.now → 0 < n) }
-        ensures adds { IfOk result (λ n. Appends (W.contents self.old.device) (W.contents self.new.device) (take n piece.now)) }
+        ensures adds { IfOk result (λ n.
+            Appends (W.contents self.old.device) (W.contents self.new.device) (take n piece.now)) }
         ensures err { OnErr result (Keeps (W.contents self.old.device) (W.contents self.new.device)) }
         ensures never_fall { self.old.faults ≤ self.new.faults }
         ensures failed { result ≡ Err SinkError.Failed → Rose self.old.faults self.new.faults }

@@ -2,7 +2,7 @@
 ghost use Rattle.std.specs.Prelude.{◌≡◌, ℕ, ◌<◌, ◌≤◌, min, List, [], ◌++◌, take, length, Option, Some, IfOk, OnErr, IsErr, MatchResult, IsTrue, ◌↔◌};
 ghost use Rattle.std.specs.Io.KnownBytes.{Consumes, Keeps, IsAtEnd};
 ghost use Rattle.band_base.specs.Device.{Rose, one_fault_more};
-ghost use Rattle.band_base.specs.Failing.{fails_next, counted};
+ghost use Rattle.band_base.specs.Failing.{new_calls, fails_next, counted};
 
 use crate::failures::Failures;
 use std::io::{Read, Stdin};
@@ -104,7 +104,7 @@ impl<'a> FailingIn<'a> {
     /// stand in `fail`. No call fails once more than the largest `u64` were made.
     pub fn new(bytes: &'a [u8], most: usize, fail: &'a [u64]) -> FailingIn<'a>
         requires { 0 < most }
-        ensures { result ≡ record { left = bytes.now; most = most; calls = record { fail = fail.now; made = 0; failed = 0 } } }
+        ensures { result ≡ record { left = bytes.now; most = most; calls = new_calls fail.now } }
     {
         FailingIn {
             rest: bytes,
@@ -123,7 +123,8 @@ impl Source for FailingIn<'_> {
         // It fails exactly where the call's number says so.
         ensures fails { IsErr result ↔ IsTrue (fails_next self.old.calls) }
         // Else it gives as many as it may, of those that are left and fit.
-        ensures most { IfOk result (λ n. n ≡ min self.old.most (min (length self.old.left) (length buf.old))) }
+        ensures most { IfOk result (λ n.
+            n ≡ min self.old.most (min (length self.old.left) (length buf.old))) }
         ensures counts { self.new.calls ≡ counted self.old.calls }
         ensures same { self.new.most ≡ self.old.most }
         ensures count { IfOk result (λ n. n ≤ length buf.old) }
@@ -184,7 +185,8 @@ impl<R: Read> Source for ReaderSource<R> {
 
     fn read(&mut self, buf: &mut [u8]) -> Result<usize, SourceFailed>
         ensures count { IfOk result (λ n. n ≤ length buf.old) }
-        ensures front { IfOk result (λ n. Consumes (R.remaining self.old.device) (R.remaining self.new.device) (take n buf.new)) }
+        ensures front { IfOk result (λ n.
+            Consumes (R.remaining self.old.device) (R.remaining self.new.device) (take n buf.new)) }
         ensures end { result ≡ Ok 0 → 0 < length buf.old → IsAtEnd (R.remaining self.new.device) }
         ensures err { OnErr result (Keeps (R.remaining self.old.device) (R.remaining self.new.device)) }
         ensures never_fall { self.old.faults ≤ self.new.faults }

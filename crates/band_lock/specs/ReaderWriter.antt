@@ -7,6 +7,10 @@ pub record ReaderWriter : Type 0 where
   pub max : ℕ
   pub shares : SemaphoreState
 
+-- what becomes of its shares
+abbrev pub on_shares : (SemaphoreState → SemaphoreState) → ReaderWriter → ReaderWriter
+on_shares change lock = record lock { shares = change lock.shares }
+
 -- one for so many readers at a time, which nobody has
 abbrev pub new_lock : ℕ → ℕ → ReaderWriter
 new_lock number max = record { max = max; shares = new_state number max }

@@ -2,6 +2,7 @@
 ghost use Rattle.std.specs.Prelude.{◌≡◌, ◌≤◌, ◌↔◌, IsTrue, IsSome, IfSome, OnSome, IfNone};
 ghost use Rattle.band_balance.specs.Line.{is_served};
 ghost use Rattle.band_sem.specs.Laws.{KeepsOrder, Leaves};
+ghost use Rattle.band_sem.specs.Permit.{new_permit};
 ghost use Rattle.band_sem.specs.Request.{new_request};
 ghost use Rattle.band_sem.specs.Semaphore.{IsLawful, IsOwn, Polls, new_state, taken, given_back, cancelled, TakesWake};
 ghost use Rattle.band_sem.specs.Whole.{IsWhole};
@@ -93,7 +94,7 @@ impl MutexState {
     /// Locks it if it is free and nobody waits. It never joins the line.
     pub fn try_lock(&mut self) -> Option<LockGuard>
         ensures served { IsSome result ↔ IsTrue (is_served 1 self.old.line) }
-        ensures guard { IfSome result (λ guard. guard ≡ record { of = self.old.number; count = 1 }) }
+        ensures guard { IfSome result (λ guard. guard ≡ new_permit self.old.number 1) }
         ensures some { OnSome result (self.new ≡ taken 1 self.old) }
         ensures none { IfNone result (self.new ≡ self.old) }
         ensures lawful { IsLawful self.new }

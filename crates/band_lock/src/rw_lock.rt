@@ -2,10 +2,11 @@
 ghost use Rattle.std.specs.Prelude.{◌≡◌, ◌-◌, ◌<◌, ◌≤◌, ◌^◌, ◌↔◌, IsTrue, IsSome, IfSome, OnSome, IfNone};
 ghost use Rattle.band_balance.specs.Line.{is_served};
 ghost use Rattle.band_sem.specs.Laws.{KeepsOrder, Leaves};
+ghost use Rattle.band_sem.specs.Permit.{new_permit};
 ghost use Rattle.band_sem.specs.Request.{new_request};
 ghost use Rattle.band_sem.specs.Semaphore.{IsLawful, IsOwn, Polls, taken, given_back, cancelled, TakesWake};
 ghost use Rattle.band_sem.specs.Whole.{IsWhole};
-ghost use Rattle.band_lock.specs.ReaderWriter.{new_lock};
+ghost use Rattle.band_lock.specs.ReaderWriter.{new_lock, on_shares};
 
 use band_base::{Poll, PollError, Steps, Waker};
 use band_sem::{Acquire, Semaphore, SemaphorePermit};
@@ -158,8 +159,8 @@ impl RwLockState {
     /// Takes the right to read if there is one and nobody waits. It never joins the line.
     pub fn try_read(&mut self) -> Option<ReadAccess>
         ensures served { IsSome result ↔ IsTrue (is_served 1 self.old.shares.line) }
-        ensures access { IfSome result (λ access. access ≡ record { of = self.old.shares.number; count = 1 }) }
-        ensures some { OnSome result (self.new ≡ record self.old { shares = taken 1 self.old.shares }) }
+        ensures access { IfSome result (λ access. access ≡ new_permit self.old.shares.number 1) }
+        ensures some { OnSome result (self.new ≡ on_shares (taken 1) self.old) }
         ensures none { IfNone result (self.new ≡ self.old) }
         ensures lawful { IsLawful self.new.shares }
         ensures whole { IsWhole self.new.max self.new.shares }
@@ -171,8 +172,8 @@ impl RwLockState {
     /// Takes the right to write if nobody has the lock and nobody waits. It never joins the line.
     pub fn try_write(&mut self) -> Option<WriteAccess>
         ensures served { IsSome result ↔ IsTrue (is_served self.old.max self.old.shares.line) }
-        ensures access { IfSome result (λ access. access ≡ record { of = self.old.shares.number; count = self.old.max }) }
-        ensures some { OnSome result (self.new ≡ record self.old { shares = taken self.old.max self.old.shares }) }
+        ensures access { IfSome result (λ access. access ≡ new_permit self.old.shares.number self.old.max) }
+        ensures some { OnSome result (self.new ≡ on_shares (taken self.old.max) self.old) }
         ensures none { IfNone result (self.new ≡ self.old) }
         ensures lawful { IsLawful self.new.shares }
         ensures whole { IsWhole self.new.max self.new.shares }
@@ -186,7 +187,7 @@ impl RwLockState {
         requires number { a.of ≡ self.old.shares.number }
         requires held { a.count ≤ self.old.shares.held }
         ensures one { a.count ≡ 1 }
-        ensures state { self.new ≡ record self.old { shares = given_back 1 self.old.shares } }
+        ensures state { self.new ≡ on_shares (given_back 1) self.old }
         ensures order { KeepsOrder self.old.shares.line self.new.shares.line }
         ensures lawful { IsLawful self.new.shares }
         ensures whole { IsWhole self.new.max self.new.shares }
@@ -199,7 +200,7 @@ impl RwLockState {
         requires number { a.of ≡ self.old.shares.number }
         requires held { a.count ≤ self.old.shares.held }
         requires all { a.count ≡ self.old.max }
-        ensures state { self.new ≡ record self.old { shares = given_back self.old.max self.old.shares } }
+        ensures state { self.new ≡ on_shares (given_back self.old.max) self.old }
         ensures order { KeepsOrder self.old.shares.line self.new.shares.line }
         ensures lawful { IsLawful self.new.shares }
         ensures whole { IsWhole self.new.max self.new.shares }
@@ -212,8 +213,8 @@ impl RwLockState {
         requires number { a.of ≡ self.old.shares.number }
         requires held { a.count ≤ self.old.shares.held }
         requires all { a.count ≡ self.old.max }
-        ensures access { result ≡ record { of = a.of; count = 1 } }
-        ensures state { self.new ≡ record self.old { shares = given_back (self.old.max - 1) self.old.shares } }
+        ensures access { result ≡ new_permit a.of 1 }
+        ensures state { self.new ≡ on_shares (given_back (self.old.max - 1)) self.old }
         ensures order { KeepsOrder self.old.shares.line self.new.shares.line }
         ensures lawful { IsLawful self.new.shares }
         ensures whole { IsWhole self.new.max self.new.shares }
@@ -267,7 +268,7 @@ impl ReadRequest {
     pub fn cancel<L: Ledger>(self, l: &mut RwLockState, steps: &mut Steps<L>)
         requires number { self.of ≡ l.old.shares.number }
         requires own { IsOwn self.stage self.size l.old.shares.line }
-        ensures state { l.new ≡ record l.old { shares = cancelled self.stage l.old.shares } }
+        ensures state { l.new ≡ on_shares (cancelled self.stage) l.old }
         ensures others { Leaves self.stage l.old.shares l.new.shares }
         ensures order { KeepsOrder l.old.shares.line l.new.shares.line }
         ensures lawful { IsLawful l.new.shares }
@@ -318,7 +319,7 @@ impl WriteRequest {
     pub fn cancel<L: Ledger>(self, l: &mut RwLockState, steps: &mut Steps<L>)
         requires number { self.of ≡ l.old.shares.number }
         requires own { IsOwn self.stage self.size l.old.shares.line }
-        ensures state { l.new ≡ record l.old { shares = cancelled self.stage l.old.shares } }
+        ensures state { l.new ≡ on_shares (cancelled self.stage) l.old }
         ensures others { Leaves self.stage l.old.shares l.new.shares }
         ensures order { KeepsOrder l.old.shares.line l.new.shares.line }
         ensures lawful { IsLawful l.new.shares }

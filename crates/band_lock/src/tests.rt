@@ -217,7 +217,8 @@ fn writes<L: Ledger>(
     waker: Waker,
     steps: &mut Steps<L>,
 ) -> Option<WriteAccess>
-    ensures alone { OnSome result ((lock.new.shares.held ≡ lock.new.max) × (lock.new.shares.line.granted ≡ [])) }
+    ensures held { OnSome result (lock.new.shares.held ≡ lock.new.max) }
+    ensures alone { OnSome result (lock.new.shares.line.granted ≡ []) }
     ensures whole { IsWhole lock.new.max lock.new.shares }
 {
     let mut request = lock.write();

@@ -13,7 +13,7 @@ use Rattle.band_base.specs.declared.poll.Poll.TheVariants as polls
 use Rattle.band_base.specs.declared.poll.PollError.{PollError}
 use Rattle.band_base.specs.declared.poll.PollError.TheVariants as errors
 use Rattle.band_sem.specs.Semaphore.{SemaphoreState, is_slot, given_back, FirstPoll, LaterPoll, PollsAt}
-use Rattle.band_play.specs.Objects.{IsSteady, ObjectState, RequestState, HoldingState, Fits, of_kind, shares_of, on_shares, in_mode, asked_of, held_in, permit_in}
+use Rattle.band_play.specs.Objects.{IsSteady, ObjectState, RequestState, HoldingState, Fits, of_kind, shares_of, on_semaphore, in_mode, asked_of, held_in, permit_in}
 use Rattle.band_sem.specs.Request.{Request as Asked}
 use Rattle.band_sem.specs.Permit.{Permit as Held}
 use Rattle.band_sem.specs.declared.refusal.Refusal.{Refusal}
@@ -475,7 +475,7 @@ module _ (names : ℕ → ℕ → Tag) (table : List ℕ → Option Thing) (sems
             at_sem refl)
 
     pub drop_permit : (table' : List ℕ → Option Thing) (sems' : List ObjectState) (name : List ℕ) (permit : HoldingState)
-        → table name ≡ Some (things.Holding permit) → Becomes permit.of sems sems' (on_shares (given_back permit.count)) → Updated table table' name None
+        → table name ≡ Some (things.Holding permit) → Becomes permit.of sems sems' (on_semaphore (given_back permit.count)) → Updated table table' name None
         → Matches (dropping (standing name state) name state) replies.Done table' permit.of sems'
     drop_permit table' sems' name permit is becomes update =
         dropped_known (known_at name (Some (things.Holding permit)) is)

@@ -13,7 +13,7 @@ use Rattle.band_sem.specs.Semaphore.{IsOwn, Polls, given_back, cancelled}
 use Rattle.band_sem.specs.Permit.{Permit as Held}
 use Rattle.band_balance.specs.Object.{Mode, Permit, Lock, Read, Write, size_of}
 use Rattle.band_balance.specs.Object as object
-use Rattle.band_play.specs.Objects.{ObjectState, RequestState, HoldingState, of_kind, shares_of, on_shares, asked_of, permit_in, IsSteady, Fits}
+use Rattle.band_play.specs.Objects.{ObjectState, RequestState, HoldingState, of_kind, shares_of, on_semaphore, asked_of, permit_in, IsSteady, Fits}
 use Rattle.band_play.specs.Step.{is_of, same_mode}
 use Rattle.band_play.specs.State.{Tag}
 use Rattle.band_play.specs.declared.object.New.{New}
@@ -101,11 +101,11 @@ pub record Becomes (place : ℕ) (old new : List ObjectState) (step : ObjectStat
 
 -- a request is cancelled
 abbrev pub cancelled_at : Stage → ObjectState → ObjectState
-cancelled_at stage sem = on_shares (cancelled stage) sem
+cancelled_at stage sem = on_semaphore (cancelled stage) sem
 
 abbrev pub DropsThing : Thing → List ObjectState → List ObjectState → Type 0
 DropsThing (things.Object place) old new = new ≡ old
-DropsThing (things.Holding holding) old new = Becomes holding.of old new (on_shares (given_back holding.count))
+DropsThing (things.Holding holding) old new = Becomes holding.of old new (on_semaphore (given_back holding.count))
 DropsThing (things.Request place request) old new = Becomes place old new (cancelled_at request.stage)
 
 abbrev pub kind_at : Option ObjectState → Option object.Kind

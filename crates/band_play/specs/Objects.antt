@@ -36,8 +36,8 @@ abbrev pub shares_of : ObjectState → SemaphoreState
 shares_of object = record { number = object.number; line = object.line; held = object.held }
 
 -- what a semaphore would become, with the kind that it has
-abbrev pub on_shares : (SemaphoreState → SemaphoreState) → ObjectState → ObjectState
-on_shares change object = of_kind object.kind (change (shares_of object))
+abbrev pub on_semaphore : (SemaphoreState → SemaphoreState) → ObjectState → ObjectState
+on_semaphore change object = of_kind object.kind (change (shares_of object))
 
 -- the oldest waker to wake of its line, if there is one, is taken
 pub record TakesWakeOf (old : ObjectState) (result : Option Waker) (new : ObjectState) : Type 0 where

@@ -45,7 +45,7 @@ impl Holding {
     ghost use Rattle.std.specs.Prelude.{◌≡◌, ◌+◌, ◌-◌, ◌<◌, ◌≤◌, ◌↔◌, IsNone, IfSome, IfNone};
     ghost use Rattle.band_balance.specs.Object.{Permit, Read, Write};
     ghost use Rattle.band_sem.specs.Semaphore.{given_back, forgotten};
-    ghost use Rattle.band_play.specs.Objects.{on_shares, IsSteady, Fits};
+    ghost use Rattle.band_play.specs.Objects.{on_semaphore, IsSteady, Fits};
     ghost use Rattle.band_play.specs.Moves.{downgraded};
 
     /// Gives it back.
@@ -53,7 +53,7 @@ impl Holding {
         requires number { self.of ≡ object.old.number }
         requires held { self.count ≤ object.old.held }
         requires fits { Fits object.old.kind self.mode self.count }
-        ensures state { object.new ≡ on_shares (given_back self.count) object.old }
+        ensures state { object.new ≡ on_semaphore (given_back self.count) object.old }
         ensures steady { IsSteady object.new }
     {
         let Holding { any } = self;
@@ -90,7 +90,7 @@ impl Holding {
         requires number { self.of ≡ object.old.number }
         requires held { self.count ≤ object.old.held }
         requires fits { Fits object.old.kind self.mode self.count }
-        ensures state { object.new ≡ on_shares (forgotten self.count) object.old }
+        ensures state { object.new ≡ on_semaphore (forgotten self.count) object.old }
         ensures steady { IsSteady object.new }
     {
         let Holding { any } = self;

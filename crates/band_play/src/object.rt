@@ -58,7 +58,7 @@ impl Object {
     ghost use Rattle.band_balance.specs.Object as kinds;
     ghost use Rattle.band_sem.specs.Request.{new_request};
     ghost use Rattle.band_sem.specs.Semaphore.{new_state, taken, released, reduced};
-    ghost use Rattle.band_play.specs.Objects.{of_kind, shares_of, on_shares, in_mode, IsSteady, TakesWakeOf};
+    ghost use Rattle.band_play.specs.Objects.{of_kind, shares_of, on_semaphore, in_mode, IsSteady, TakesWakeOf};
     ghost use Rattle.band_play.specs.Moves.{mode_of, size_for, kind_made, count_made, IsForReaders};
     ghost use Rattle.band_play.specs.Step.{is_of};
 
@@ -164,7 +164,7 @@ impl Object {
         requires { IsTrue (is_of self.old.kind (mode_of want)) }
         ensures served { IsSome result ↔ IsTrue (is_served (size_for want self.old.kind) self.old.line) }
         ensures holding { IfSome result (λ holding. holding ≡ record { mode = mode_of want; of = self.old.number; count = size_for want self.old.kind }) }
-        ensures some { OnSome result (self.new ≡ on_shares (taken (size_for want self.old.kind)) self.old) }
+        ensures some { OnSome result (self.new ≡ on_semaphore (taken (size_for want self.old.kind)) self.old) }
         ensures none { IfNone result (self.new ≡ self.old) }
         ensures steady { IsSteady self.new }
     {
@@ -188,7 +188,7 @@ impl Object {
     ) -> Result<(), ReleaseError>
         requires { IsTrue (is_of self.old.kind Permit) }
         ensures overflow { IsErrOf result ReleaseError.Overflow ↔ IsTrue (overflows n self.old.line self.old.held) }
-        ensures ok { OnOk result (self.new ≡ on_shares (released n) self.old) }
+        ensures ok { OnOk result (self.new ≡ on_semaphore (released n) self.old) }
         ensures err { OnErr result (self.new ≡ self.old) }
         ensures steady { IsSteady self.new }
     {
@@ -206,7 +206,7 @@ impl Object {
     ) -> Result<(), ReduceError>
         requires { IsTrue (is_of self.old.kind Permit) }
         ensures debt { IsErrOf result ReduceError.Debt ↔ IsTrue (owes_too_much n self.old.line) }
-        ensures ok { OnOk result (self.new ≡ on_shares (reduced n) self.old) }
+        ensures ok { OnOk result (self.new ≡ on_semaphore (reduced n) self.old) }
         ensures err { OnErr result (self.new ≡ self.old) }
         ensures steady { IsSteady self.new }
     {
@@ -220,7 +220,7 @@ impl Object {
     pub(crate) fn drain(&mut self, n: u64) -> u64
         requires { IsTrue (is_of self.old.kind Permit) }
         ensures count { result ≡ drained n self.old.line }
-        ensures state { self.new ≡ on_shares (reduced result) self.old }
+        ensures state { self.new ≡ on_semaphore (reduced result) self.old }
         ensures steady { IsSteady self.new }
     {
         match &mut self.primitive {

@@ -11,7 +11,7 @@ use Rattle.band_base.specs.declared.poll.PollError.TheVariants as errors
 use Rattle.band_base.specs.declared.waker.Waker.{Waker}
 use Rattle.band_sem.specs.Permit.{Permit}
 use Rattle.band_sem.specs.Request.{Request, Stage, NotPolled, Joined, Finished}
-use Rattle.band_sem.specs.Semaphore.{SemaphoreState, IsOwn, AreApart, Polls, PollsAt, TakesWake, taken, given_back, released, reduced, forgotten, cancelled, is_slot}
+use Rattle.band_sem.specs.Semaphore.{SemaphoreState, IsOwn, SlotsDiffer, Polls, PollsAt, TakesWake, taken, given_back, released, reduced, forgotten, cancelled, is_slot}
 
 same_slot : (slot : ℕ) → nat_eq slot slot ≡ true
 same_slot slot = grind (arith, nat_tests)
@@ -77,23 +77,23 @@ module _ (mine : Request) (old new : SemaphoreState) (own : IsOwn mine.stage min
   IsOwn-wakes None (none, same) = rw same own
   IsOwn-wakes (Some waker) (first, takes) = rw takes (IsOwn-same mine.stage mine.size old.line _ refl own)
 
-  pub IsOwn-cancels : (other : Stage) → AreApart mine.stage other → new ≡ cancelled other old → IsOwn mine.stage mine.size new.line
+  pub IsOwn-cancels : (other : Stage) → SlotsDiffer mine.stage other → new ≡ cancelled other old → IsOwn mine.stage mine.size new.line
   IsOwn-cancels NotPolled apart same = rw same own
   IsOwn-cancels Finished apart same = rw same own
   IsOwn-cancels (Joined slot) apart ends = rw ends (at mine.stage own apart)
     where
-      at : (stage : Stage) → IsOwn stage mine.size old.line → AreApart stage (Joined slot) → IsOwn stage mine.size (cancelled (Joined slot) old).line
+      at : (stage : Stage) → IsOwn stage mine.size old.line → SlotsDiffer stage (Joined slot) → IsOwn stage mine.size (cancelled (Joined slot) old).line
       at NotPolled own apart = tt
       at (Joined my_slot) own apart = IsOwn-cancel_other my_slot mine.size slot old.line apart own
       at Finished own apart = tt
 
   -- another's poll, after which the two still have no slot in common
-  pub IsOwn-polls : (other other' : Request) (waker : ℕ) (result : Result (Poll Permit) PollError) → AreApart mine.stage other.stage → Polls other waker old result other' new
-      → IsOwn mine.stage mine.size new.line × AreApart mine.stage other'.stage
+  pub IsOwn-polls : (other other' : Request) (waker : ℕ) (result : Result (Poll Permit) PollError) → SlotsDiffer mine.stage other.stage → Polls other waker old result other' new
+      → IsOwn mine.stage mine.size new.line × SlotsDiffer mine.stage other'.stage
   IsOwn-polls other other' waker result apart polled = at mine.stage own other.stage refl apart result polled
     where
-      at : (stage : Stage) → IsOwn stage mine.size old.line → (stage' : Stage) → other.stage ≡ stage' → AreApart stage stage' → (result : Result (Poll Permit) PollError) → PollsAt stage' other waker old result other' new
-          → IsOwn stage mine.size new.line × AreApart stage other'.stage
+      at : (stage : Stage) → IsOwn stage mine.size old.line → (stage' : Stage) → other.stage ≡ stage' → SlotsDiffer stage stage' → (result : Result (Poll Permit) PollError) → PollsAt stage' other waker old result other' new
+          → IsOwn stage mine.size new.line × SlotsDiffer stage other'.stage
       at NotPolled own stage' is apart result polled = (tt, tt)
       at Finished own stage' is apart result polled = (tt, tt)
       at (Joined slot) own NotPolled is apart (Ok (Ready permit)) (served, gives, takes, ends) = rw (takes, ends) (own, tt)

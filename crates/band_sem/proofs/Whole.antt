@@ -13,7 +13,7 @@ use Rattle.band_base.specs.declared.poll.Poll.TheVariants as polls
 use Rattle.band_base.specs.declared.poll.PollError.{PollError}
 use Rattle.band_base.specs.declared.poll.PollError.TheVariants as errors
 use Rattle.band_base.specs.declared.waker.Waker.{Waker}
-use Rattle.band_sem.specs.Semaphore.{SemaphoreState, is_slot, new_state, taken, given_back, joined, received, with_waker, ended, woken, TakesWake, FirstPoll, LaterPoll}
+use Rattle.band_sem.specs.Semaphore.{SemaphoreState, is_slot, new_state, taken, given_back, joined, received, with_waker, without_request, woken, TakesWake, FirstPoll, LaterPoll}
 use Rattle.band_sem.specs.Permit.{Permit}
 use Rattle.band_sem.specs.Request.{Request}
 use Rattle.band_sem.specs.Whole.{IsWhole, StaysWhole}
@@ -151,8 +151,8 @@ module _ (n : ℕ) (state : SemaphoreState) (is : IsWhole n state) where
       same : (k : ℕ) (z z' : ℤ) (g g' h : ℕ) → k ≤ h → z' +ℤ pos g' ≡ z +ℤ pos k +ℤ pos g → z +ℤ pos (g + h) ≡ pos n → z' +ℤ pos (g' + (h - k)) ≡ pos n
       same k z z' g g' h le moved e = omega (arith, ints)
 
-  IsWhole-ended : (slot : ℕ) → IsWhole n (ended slot state)
-  IsWhole-ended slot =
+  IsWhole-without_request : (slot : ℕ) → IsWhole n (without_request slot state)
+  IsWhole-without_request slot =
       is_whole n _ is.some
       (unowed (entry_named (is_slot slot) state.line.granted))
       (same state.line.free (cancel (is_slot slot) state.line).free (total state.line.granted) (total (cancel (is_slot slot) state.line).granted) state.held (free-total-cancel (is_slot slot) state.line) is.adds_up)
@@ -203,8 +203,8 @@ module _ (old new : SemaphoreState) where
   StaysWhole-woken None (none, same) = StaysWhole-same same
   StaysWhole-woken (Some waker) (first, takes) = λ n is. rw takes (IsWhole-woken n old is)
 
-  pub StaysWhole-ended : (slot : ℕ) → new ≡ ended slot old → StaysWhole old new
-  StaysWhole-ended slot ends = λ n is. rw ends (IsWhole-ended n old is slot)
+  pub StaysWhole-without_request : (slot : ℕ) → new ≡ without_request slot old → StaysWhole old new
+  StaysWhole-without_request slot ends = λ n is. rw ends (IsWhole-without_request n old is slot)
 
   pub StaysWhole-first_poll : (request request' : Request) (waker : ℕ) (result : Result (Poll Permit) PollError) → FirstPoll request waker old result request' new → StaysWhole old new
   StaysWhole-first_poll request request' waker (Ok (polls.Ready permit)) (served, a, takes, b) = λ n is. rw takes (IsWhole-taken n old is request.size (is_true (is_served request.size old.line) served))

@@ -8,7 +8,7 @@ use Rattle.band_base.specs.declared.poll.Poll.TheVariants.{Ready, Pending}
 use Rattle.band_base.specs.declared.poll.PollError.{PollError}
 use Rattle.band_base.specs.declared.poll.PollError.TheVariants as errors
 use Rattle.band_base.specs.declared.waker.Waker.{Waker}
-use Rattle.band_sem.specs.Permit.{Permit}
+use Rattle.band_sem.specs.Permit.{Permit, new_permit}
 use Rattle.band_sem.specs.Request.{Request, Stage, NotPolled, Joined, Finished}
 
 -- its number, its line by slots, and how many permits are held
@@ -68,8 +68,8 @@ abbrev pub with_waker : ℕ → ℕ → SemaphoreState → SemaphoreState
 with_waker slot waker old = record old { line = poll_waiting (is_slot slot) waker old.line }
 
 -- the request under this slot ends, and the line settles
-abbrev pub ended : ℕ → SemaphoreState → SemaphoreState
-ended slot old = record old { line = cancel (is_slot slot) old.line }
+abbrev pub without_request : ℕ → SemaphoreState → SemaphoreState
+without_request slot old = record old { line = cancel (is_slot slot) old.line }
 
 -- the oldest waker to wake is taken
 abbrev pub woken : SemaphoreState → SemaphoreState
@@ -83,22 +83,24 @@ TakesWake old (Some waker) new = (old.line.wakes ≡ waker.0 ∷ new.line.wakes)
 -- a request that joined has its slot in the line
 abbrev pub IsOwn : Stage → ℕ → Line ℕ → Type 0
 IsOwn NotPolled size line = Unit {0}
-IsOwn (Joined slot) size line = entry_named (is_slot slot) (requests line) ≡ Some (record { name = slot; size = size })
+IsOwn (Joined slot) size line =
+    entry_named (is_slot slot) (requests line) ≡ Some (record { name = slot; size = size })
 IsOwn Finished size line = Unit {0}
 
 -- two requests don't have one slot
-abbrev pub AreApart : Stage → Stage → Type 0
-AreApart (Joined mine) (Joined other) = (mine == other) ≡ false
-AreApart mine other = Unit {0}
+abbrev pub SlotsDiffer : Stage → Stage → Type 0
+SlotsDiffer (Joined mine) (Joined other) = (mine == other) ≡ false
+SlotsDiffer mine other = Unit {0}
 
 abbrev pub finished : Request → Request
 finished request = record request { stage = Finished }
 
 abbrev pub permit_for : Request → Permit
-permit_for request = record { of = request.of; count = request.size }
+permit_for request = new_permit request.of request.size
 
 -- a first poll: it is served at once, or it joins under a slot that nobody has
-abbrev pub FirstPoll : Request → ℕ → SemaphoreState → Result (Poll Permit) PollError → Request → SemaphoreState → Type 0
+abbrev pub FirstPoll : Request → ℕ → SemaphoreState → Result (Poll Permit) PollError
+    → Request → SemaphoreState → Type 0
 FirstPoll request waker old (Ok (Ready permit)) request' new =
     IsTrue (is_served request.size old.line)
     × (permit ≡ permit_for request)
@@ -115,7 +117,8 @@ FirstPoll request waker old (Err errors.NoMemory) request' new =
 FirstPoll request waker old (Err error) request' new = ⊥
 
 -- a later poll: one that was granted takes its permits, and one that waits leaves its new waker
-abbrev pub LaterPoll : ℕ → Request → ℕ → SemaphoreState → Result (Poll Permit) PollError → Request → SemaphoreState → Type 0
+abbrev pub LaterPoll : ℕ → Request → ℕ → SemaphoreState → Result (Poll Permit) PollError
+    → Request → SemaphoreState → Type 0
 LaterPoll slot request waker old (Ok (Ready permit)) request' new =
     (entry_named (is_slot slot) old.line.granted ≡ Some (record { name = slot; size = request.size }))
     × (permit ≡ permit_for request)
@@ -128,19 +131,24 @@ LaterPoll slot request waker old (Ok Pending) request' new =
 LaterPoll slot request waker old (Err error) request' new = ⊥
 
 -- a poll of one that was ready before changes nothing
-abbrev pub RefusedPoll : Request → SemaphoreState → Result (Poll Permit) PollError → Request → SemaphoreState → Type 0
-RefusedPoll request old result request' new = (result ≡ Err errors.Finished) × (new ≡ old) × (request' ≡ request)
+abbrev pub RefusedPoll : Request → SemaphoreState → Result (Poll Permit) PollError
+    → Request → SemaphoreState → Type 0
+RefusedPoll request old result request' new =
+    (result ≡ Err errors.Finished) × (new ≡ old) × (request' ≡ request)
 
-abbrev pub PollsAt : Stage → Request → ℕ → SemaphoreState → Result (Poll Permit) PollError → Request → SemaphoreState → Type 0
+abbrev pub PollsAt : Stage → Request → ℕ → SemaphoreState → Result (Poll Permit) PollError
+    → Request → SemaphoreState → Type 0
 PollsAt NotPolled request waker old result request' new = FirstPoll request waker old result request' new
-PollsAt (Joined slot) request waker old result request' new = LaterPoll slot request waker old result request' new
+PollsAt (Joined slot) request waker old result request' new =
+    LaterPoll slot request waker old result request' new
 PollsAt Finished request waker old result request' new = RefusedPoll request old result request' new
 
-abbrev pub Polls : Request → ℕ → SemaphoreState → Result (Poll Permit) PollError → Request → SemaphoreState → Type 0
+abbrev pub Polls : Request → ℕ → SemaphoreState → Result (Poll Permit) PollError
+    → Request → SemaphoreState → Type 0
 Polls request waker old result request' new = PollsAt request.stage request waker old result request' new
 
 -- what a cancel leaves: nothing changes where the request is not in the line
 abbrev pub cancelled : Stage → SemaphoreState → SemaphoreState
 cancelled NotPolled old = old
-cancelled (Joined slot) old = ended slot old
+cancelled (Joined slot) old = without_request slot old
 cancelled Finished old = old

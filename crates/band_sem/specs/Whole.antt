@@ -16,8 +16,8 @@ pub record IsWhole (n : ℕ) (state : SemaphoreState) : Type 0 where
   -- so at most n are granted and held: of a mutex one
   pub at_most : length state.line.granted + state.held ≤ n
   -- a request that was granted all has them alone
-  pub granted_alone : (slot : ℕ) (e : Entry ℕ) → entry_named (is_slot slot) state.line.granted ≡ Some e → e.size ≡ n
-      → (state.line.granted ≡ e ∷ []) × (state.held ≡ 0)
+  pub granted_alone : (slot : ℕ) (e : Entry ℕ) → entry_named (is_slot slot) state.line.granted ≡ Some e
+      → e.size ≡ n → (state.line.granted ≡ e ∷ []) × (state.held ≡ 0)
   -- while all are held, no request is granted any
   pub held_alone : n ≤ state.held → (state.line.granted ≡ []) × (state.held ≡ n)
 

@@ -1,6 +1,6 @@
 //! What a request is answered with.
 ghost use Rattle.std.specs.Prelude.{◌≡◌, ◌≢◌, ◌+◌, ◌-◌, ◌<◌, ◌≤◌, ◌↔◌, IsNone, IfSome, IfNone, IsErr, IfErr, OnOk, OnErr};
-ghost use Rattle.band_sem.specs.Permit.{Permit};
+ghost use Rattle.band_sem.specs.Permit.{Permit, new_permit};
 
 use crate::MergeError;
 use std::marker::Model;
@@ -22,7 +22,7 @@ impl Model for SemaphorePermit {
 impl SemaphorePermit {
     /// Permits of the semaphore with this number, which the semaphore counts as held.
     pub(crate) fn new(of: u64, count: u64) -> SemaphorePermit
-        ensures { result ≡ record { of = of; count = count } }
+        ensures { result ≡ new_permit of count }
     {
         SemaphorePermit { of, count }
     }

@@ -1,9 +1,10 @@
 //! The semaphore.
 ghost use Rattle.std.specs.Prelude.{◌≡◌, ◌-◌, ◌<◌, ◌≤◌, ◌↔◌, length, IsTrue, IsSome, IfSome, OnSome, IfNone, IsErrOf, OnOk, OnErr};
 ghost use Rattle.band_balance.specs.Line.{total, available, drained, overflows, owes_too_much, is_served};
+ghost use Rattle.band_sem.specs.Permit.{new_permit};
 ghost use Rattle.band_sem.specs.Request.{new_request};
 ghost use Rattle.band_sem.specs.Laws.{KeepsOrder, LeavesOthers};
-ghost use Rattle.band_sem.specs.Semaphore.{SemaphoreState, IsLawful, new_state, taken, given_back, forgotten, released, reduced, ended, TakesWake};
+ghost use Rattle.band_sem.specs.Semaphore.{SemaphoreState, IsLawful, new_state, taken, given_back, forgotten, released, reduced, without_request, TakesWake};
 ghost use Rattle.band_sem.specs.Kept.Store.{Enters, PollsSlot};
 ghost use Rattle.band_sem.specs.Whole.{StaysWhole};
 
@@ -99,7 +100,7 @@ impl Semaphore {
     /// Takes `n` permits if they are there and nobody waits. It never joins the line.
     pub fn try_acquire(&mut self, n: u64) -> Option<SemaphorePermit>
         ensures served { IsSome result ↔ IsTrue (is_served n self.old.line) }
-        ensures permit { IfSome result (λ permit. permit ≡ record { of = self.old.number; count = n }) }
+        ensures permit { IfSome result (λ permit. permit ≡ new_permit self.old.number n) }
         ensures some { OnSome result (self.new ≡ taken n self.old) }
         ensures none { IfNone result (self.new ≡ self.old) }
         ensures lawful { IsLawful self.new }
@@ -122,7 +123,8 @@ impl Semaphore {
 
     /// Adds `n` permits, which first pay what is owed. Then the line settles.
     pub fn release<L: Ledger>(&mut self, n: u64, steps: &mut Steps<L>) -> Result<(), ReleaseError>
-        ensures overflow { IsErrOf result ReleaseError.Overflow ↔ IsTrue (overflows n self.old.line self.old.held) }
+        ensures overflow { IsErrOf result ReleaseError.Overflow
+            ↔ IsTrue (overflows n self.old.line self.old.held) }
         ensures ok { OnOk result (self.new ≡ released n self.old) }
         ensures err { OnErr result (self.new ≡ self.old) }
         ensures order { KeepsOrder self.old.line self.new.line }
@@ -227,7 +229,7 @@ impl Semaphore {
 
     /// Ends the request under this slot. Then the line settles.
     pub(crate) fn cancel(&mut self, slot: u64)
-        ensures state { self.new ≡ ended slot self.old }
+        ensures state { self.new ≡ without_request slot self.old }
         ensures others { LeavesOthers slot self.old self.new }
         ensures order { KeepsOrder self.old.line self.new.line }
         ensures lawful { IsLawful self.new }

@@ -2,7 +2,7 @@
 ghost use Rattle.std.specs.Prelude.{◌≡◌, ◌+◌, ◌≤◌, ◌↔◌, false, length, IsTrue, pos, ◌+ℤ◌};
 ghost use Rattle.std.specs.Bool.{OnTrue};
 ghost use Rattle.band_balance.specs.Line.{nobody_waits, total, available, drained, overflows, owes_too_much, is_served, settle, withdraw, entry_named};
-ghost use Rattle.band_sem.specs.Semaphore.{is_slot, new_state, taken, given_back, forgotten, released, reduced, with_waker, ended, TakesWake};
+ghost use Rattle.band_sem.specs.Semaphore.{is_slot, new_state, taken, given_back, forgotten, released, reduced, with_waker, without_request, TakesWake};
 ghost use Rattle.band_sem.specs.Kept.Store.{line_of, state_of, IsKept, IsSound, JoinsLine, Enters, PollsSlot, TakesGranted};
 
 use crate::balance::Balance;
@@ -370,7 +370,7 @@ impl Store {
     /// Ends the request under this slot. Then the line settles.
     pub(crate) fn cancel(&mut self, slot: u64)
         requires { IsSound self.old }
-        ensures state { state_of self.new ≡ ended slot (state_of self.old) }
+        ensures state { state_of self.new ≡ without_request slot (state_of self.old) }
         ensures sound { IsSound self.new }
     {
         self.withdraw(slot);

@@ -2,6 +2,7 @@
 ghost use Rattle.std.specs.Prelude.{◌≡◌, ◌+◌, ◌<◌, ◌≤◌, IsTrue};
 ghost use Rattle.band_balance.specs.Line.{is_served};
 ghost use Rattle.band_base.specs.declared.poll.Poll.TheVariants as poll;
+ghost use Rattle.band_sem.specs.Permit.{new_permit};
 ghost use Rattle.band_sem.specs.Semaphore.{IsLawful, IsOwn, Polls, taken, released};
 
 use crate::{Acquire, MergeError, ReduceError, ReleaseError, Semaphore, SemaphorePermit};
@@ -124,7 +125,7 @@ fn adds<L: Ledger, R: Abort>(rt: &R, sem: &mut Semaphore, n: u64, steps: &mut St
 
 /// Takes permits that are there.
 fn takes<R: Abort>(rt: &R, sem: &mut Semaphore, n: u64) -> SemaphorePermit
-    ensures permit { result ≡ record { of = sem.old.number; count = n } }
+    ensures permit { result ≡ new_permit sem.old.number n }
     ensures state { sem.new ≡ taken n sem.old }
     ensures lawful { IsLawful sem.new }
 {

@@ -1,6 +1,6 @@
 //! What calls for others leave of a request's place, and of what is held.
 ghost use Rattle.std.specs.Prelude.{◌≡◌, ◌+◌, ◌≤◌};
-ghost use Rattle.band_sem.specs.Semaphore.{IsOwn, AreApart};
+ghost use Rattle.band_sem.specs.Semaphore.{IsOwn, SlotsDiffer};
 
 use band_base::{Poll, PollError, Steps, Waker};
 use band_sem::{Acquire, Semaphore, SemaphorePermit};
@@ -55,7 +55,7 @@ pub fn another_asks<L: Ledger>(
     requires own { IsOwn mine.now.stage mine.now.size sem.old.line }
     requires number { other.of ≡ sem.old.number }
     requires others { IsOwn other.stage other.size sem.old.line }
-    requires apart { AreApart mine.now.stage other.stage }
+    requires apart { SlotsDiffer mine.now.stage other.stage }
     ensures { IsOwn mine.now.stage mine.now.size sem.new.line }
 {
     let answer = other.poll_once(sem, Waker(0), steps);
