@@ -1,9 +1,8 @@
 -- What is appended in parts.
-use Rattle.std.proofs.Common.{◌≡◌, ℕ, List, [], ◌++◌, take, drop, Option, refl, append_assoc, length, ◌+◌, ◌-◌, ◌≤◌, arith}
+use Rattle.std.proofs.Common.{◌≡◌, ℕ, List, [], ◌++◌, take, drop, Option, refl, append_assoc, length, ◌-◌}
 use Rattle.std.proofs.lemmas.List.{take-append-drop, take_rest}
 use Rattle.std.specs.Io.KnownBytes.{Appends}
 use Rattle.std.proofs.KnownBytes.{Appends-nil, Appends-trans}
-use Rattle.band_base.specs.Device.{Rose}
 
 -- the front of a text was appended, and this is its rest
 pub record AppendsUpTo (text rest : List ℕ) (before after : Option (List ℕ)) : Type 0 where

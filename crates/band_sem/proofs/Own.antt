@@ -2,7 +2,7 @@
 use Rattle.std.proofs.Common.{◌≡◌, ℕ, true, false, List, [], ◌∷◌, ap, refl, sym, ◌∙◌, arith, nat_eq, Option, Some, None, Result, Ok, Err}
 use Rattle.std.specs.List.{AllByRecursion}
 use Rattle.std.proofs.lemmas.Bool.Decides.{nat_tests}
-use Rattle.band_balance.specs.Line.{Entry, Line, requests, entry_named, join, poll_granted, poll_waiting, cancel, give_back}
+use Rattle.band_balance.specs.Line.{Entry, Line, requests, entry_named, join, poll_granted, poll_waiting, cancel}
 use Rattle.band_balance.proofs.Requests.{entry_named-join_itself, entry_named-join_other, entry_named-cancel_other, entry_named-poll_granted_other, entry_named-poll_waiting, requests-give_back}
 use Rattle.band_base.specs.declared.poll.Poll.{Poll}
 use Rattle.band_base.specs.declared.poll.Poll.TheVariants.{Ready, Pending}

@@ -3,7 +3,7 @@ use Rattle.std.proofs.Common.{◌≡◌, ℕ, ◌+◌, ◌-◌, ◌==◌, ◌<�
 use Rattle.std.specs.List.{AllByRecursion}
 use Rattle.std.proofs.lemmas.Int.{ints}
 use Rattle.std.proofs.lemmas.Bool.{cond_both}
-use Rattle.std.specs.Prelude.{IsTrue, IsSome, OnSome, IfNone}
+use Rattle.std.specs.Prelude.{IsTrue}
 use Rattle.band_balance.specs.Line.{Entry, Waiting, Line, requests, total, entry_of, entry_named, without, nobody_waits, is_served, give_back, cancel, withdraw, settle, settle_from}
 use Rattle.band_balance.proofs.Settle.{total-cons, total-without, free-total-give_back, free-total-cancel}
 use Rattle.band_balance.proofs.Rename.{all_of_first}

@@ -1,5 +1,5 @@
 -- What a contract sees of a semaphore, and what each call makes of it.
-use Rattle.std.specs.Prelude.{◌≡◌, ℕ, ◌+◌, ◌-◌, ◌<◌, ◌≤◌, Bool, false, ◌==◌, List, ◌∷◌, [], drop, map, pos, neg_ℤ, ◌+ℤ◌, ◌≤ℤ◌, IsTrue, Option, Some, None, Result, Ok, Err, nat_eq}
+use Rattle.std.specs.Prelude.{◌≡◌, ℕ, ◌+◌, ◌-◌, ◌<◌, ◌≤◌, Bool, false, ◌==◌, ◌∷◌, [], drop, map, pos, neg_ℤ, ◌+ℤ◌, ◌≤ℤ◌, IsTrue, Option, Some, None, Result, Ok, Err, nat_eq}
 use Rattle.std.specs.List.{IsDistinct, AllByRecursion}
 use Rattle.band_balance.specs.Line.{Line, open_line, requests, total, is_served, take_permits, give_back, join, entry_named, poll_granted, poll_waiting, cancel, u64_max}
 use Rattle.band_balance.specs.Settled.{HeadWaits}

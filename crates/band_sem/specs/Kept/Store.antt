@@ -3,7 +3,7 @@ use Rattle.std.specs.Prelude.{◌≡◌, ℕ, ◌+◌, ◌≤◌, false, pos, ne
 use Rattle.std.specs.Global.{Global}
 use Rattle.std.specs.declared.alloc.AllocError.{AllocError}
 use Rattle.std.specs.declared.boxed.Box.{Box}
-use Rattle.band_balance.specs.Line.{Line, requests, total, is_served, take_permits, join, entry_named, poll_granted, poll_waiting, u64_max}
+use Rattle.band_balance.specs.Line.{Line, requests, total, is_served, entry_named, poll_granted, u64_max}
 use Rattle.band_sem.specs.declared.queue.Queue.{Queue}
 use Rattle.band_sem.specs.declared.store.Store.{Store}
 use Rattle.band_sem.specs.declared.store.Entrance.{Entrance}

@@ -1,6 +1,6 @@
 use Rattle.std.proofs.Common.{refl, Ok}
 use Rattle.band_sem.proofs.Laws.{KeepsOrder-same, KeepsOrder-first_poll, KeepsOrder-later_poll}
-use Rattle.band_sem.proofs.Whole.{StaysWhole-first_poll, StaysWhole-later_poll, StaysWhole-same}
+use Rattle.band_sem.proofs.Whole.{StaysWhole-first_poll, StaysWhole-later_poll}
 use Rattle.band_sem.proofs.acquire.Acquire.poll_once.Goals as goal
 
 pub returns-in-NotPolled-clause-order : goal.returns-in-NotPolled-clause-order
