@@ -123,6 +123,9 @@ sender_step : (s : OneshotStep) (c : OneshotState) → is_senders s ≡ true →
 sender_step FinalSwap c own h on = sender_swap c h on
 sender_step s c own h on = grind arith
 
+pub sender_makes-same : (x y : ℕ) → y ≡ x → sender_makes x y ≡ true
+sender_makes-same x y e = grind arith
+
 sender_only : (s : OneshotStep) (c : OneshotState) → is_senders s ≡ true → (after s c).receiver ≡ c.receiver
 sender_only s c own = grind arith
 
@@ -159,7 +162,7 @@ sender_makes-after_all (s ∷ rest) c own h on =
     sender_makes-trans c.word (after s c).word (after_all rest (after s c)).word (sender_step s c own.0 h on)
     (sender_makes-after_all rest (after s c) own.1 (IsSound-after s c h) (λ e. on (sym (sender_only s c own.0) ∙ e)))
 
-receiver_makes-same : (x y : ℕ) → y ≡ x → receiver_makes x y ≡ true
+pub receiver_makes-same : (x y : ℕ) → y ≡ x → receiver_makes x y ≡ true
 receiver_makes-same x y e = grind arith
 
 receiver_step : (s : OneshotStep) (c : OneshotState) → is_receivers s ≡ true → IsSound c → c.sender ≢ sender.Ended
