@@ -201,6 +201,22 @@ module _ {K : Type 0} (same : K → K → Bool) (told : TellsApart same) where
     none_granted : (after : Line (Tag K)) → ((w : Waiting (Tag K)) → NotIn line.granted w → NotIn after.granted w) → granted_between same line after ≡ []
     none_granted after fewer = filter_none _ line.waiting (all-weaker (NotIn line.granted) (NotIn after.granted) fewer line.waiting (waits_apart line.granted line.waiting differ))
 
+  -- Where an object stays as it is, nobody is granted.
+  pub granted-same : (object : Object (Tag K)) → IsOrderly same object → granted_between same object.line object.line ≡ []
+  granted-same object orderly = none_granted object.line orderly.none_woken orderly.once object.line (λ w apart. apart)
+
+  pub front-same : (object : Object (Tag K)) → IsOrderly same object → GrantsAFront same object.line object.line
+  front-same object orderly =
+      let none = granted-same object orderly in
+      let gone = none_left (λ (tag : Tag K). false) object.line.granted (each_always _ (λ e. refl) object.line.granted) in
+      record {
+        left = λ tag. false;
+        requested = sym (none_left (λ tag. false) (requests object.line) (each_always _ (λ e. refl) (requests object.line)));
+        waiting = none_left_waiting (λ tag. false) object.line.waiting (each_always _ (λ w. refl) object.line.waiting) ∙ ap (λ (ws : List (Waiting (Tag K))). ws ++ object.line.waiting) (sym none);
+        granted = sym (ap₂ (λ (es : List (Entry (Tag K))) (ws : List (Waiting (Tag K))). es ++ map entry_of ws) gone none ∙ append-nil object.line.granted);
+        owed = λ owed. none;
+      }
+
   -- What an object's rule wakes and grants.
   module _ (object : Object (Tag K)) (orderly : IsOrderly same object) where
     pub record Wakes (back : Bool) (line : Line (Tag K)) : Type 0 where

@@ -62,6 +62,7 @@ module _ {K : Type 0} (same : K → K → Bool) (told : TellsApart same) (rule :
 
 -- A new object is in order, within the bounds, and has all of its shares.
 pub record NewObject {K : Type 0} (same : K → K → Bool) (object : Object (Tag K)) : Type 0 where
+  pub nobody : requests object.line ≡ []
   pub orderly : IsOrderly same object
   pub keeps_shares : KeepsShares object
 
@@ -73,16 +74,18 @@ module _ {K : Type 0} (same : K → K → Bool) where
   adds_up n = omega (arith, ints)
 
   pub new_semaphore_is : (n : ℕ) → NewObject same (new_semaphore n)
-  new_semaphore_is n = record { orderly = record { none_woken = refl; head_waits = tt; once = tt; each_request = tt; each_held = tt }; keeps_shares = tt }
+  new_semaphore_is n = record { nobody = refl; orderly = record { none_woken = refl; head_waits = tt; once = tt; each_request = tt; each_held = tt }; keeps_shares = tt }
 
   pub new_mutex_is : NewObject same new_mutex
   new_mutex_is = record {
+    nobody = refl;
     orderly = record { none_woken = refl; head_waits = tt; once = tt; each_request = tt; each_held = tt };
     keeps_shares = record { none_owed = none_owed 1; adds_up = adds_up 1 };
   }
 
   pub new_reader_writer_is : (max : ℕ) → NewObject same (new_reader_writer max)
   new_reader_writer_is max = record {
+    nobody = refl;
     orderly = record { none_woken = refl; head_waits = tt; once = tt; each_request = tt; each_held = tt };
     keeps_shares = record { none_owed = none_owed max; adds_up = adds_up max };
   }

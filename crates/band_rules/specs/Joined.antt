@@ -2,7 +2,8 @@
 use Rattle.std.specs.Prelude.{ℕ, ◌+◌, ◌<◌, if◌then◌else◌, Bool, false, List, [], ◌∷◌, Option, Some, None}
 use Rattle.std.specs.List.{AllByRecursion}
 use Rattle.std.specs.Str.{bytes_eq}
-use Rattle.band_balance.specs.Line.{Entry, Waiting, Line}
+use Rattle.band_balance.specs.Laws.{Pairwise}
+use Rattle.band_balance.specs.Line.{Entry, Waiting, Line, requests}
 use Rattle.band_balance.specs.Rule.{joiner}
 use Rattle.band_script.specs.declared.call.Call.{Call}
 use Rattle.band_rules.specs.Plan.{Plan, Act, plan}
@@ -28,7 +29,11 @@ joined_from name last now state (call ∷ calls) =
 abbrev pub joined : List ℕ → List Call → ℕ
 joined name calls = joined_from name 0 1 [] calls
 
--- each that was granted from the line joined it before each that waits in it still
+-- those in a line stand in the order in which they joined it, those that were granted first
+abbrev pub StandInTurn : List Call → Line Tag → Type 0
+StandInTurn calls line = Pairwise (λ (a b : Entry Tag). joined a.name.name calls < joined b.name.name calls) (requests line)
+
+-- so each that waits joined it after each that was granted from it
 abbrev pub GrantedInTurn : List Call → Line Tag → Type 0
 GrantedInTurn calls line =
-    AllByRecursion (λ (granted : Entry Tag). AllByRecursion (λ (waits : Waiting Tag). joined granted.name.name calls < joined waits.name.name calls) line.waiting) line.granted
+    AllByRecursion (λ (waits : Waiting Tag). AllByRecursion (λ (granted : Entry Tag). joined granted.name.name calls < joined waits.name.name calls) line.granted) line.waiting

@@ -6,3 +6,4 @@ pub mod Script
 pub mod Kept
 pub mod Woken
 pub mod Joined
+pub mod Bounds
