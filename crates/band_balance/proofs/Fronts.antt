@@ -1,12 +1,12 @@
 -- Whom a rule grants and wakes: a front of those that wait, and nobody where nothing is given back.
-use Rattle.std.proofs.Common.{◌≡◌, ℕ, ◌+◌, ◌-◌, ◌||◌, Bool, true, false, cond, List, [], ◌∷◌, ◌++◌, map, Option, Some, None, pos, ℤ, ◌+ℤ◌, ◌-ℤ◌, ◌<ℤ◌, ◌≤ℤ◌, int_le, ◌⊎◌, inl, inr, arith, refl, sym, ap, ap₂, ◌∙◌, subst, append_assoc, append-nil}
+use Rattle.std.proofs.Common.{◌≡◌, ℕ, ◌+◌, ◌-◌, Bool, true, false, cond, List, [], ◌∷◌, ◌++◌, map, Option, Some, None, pos, ℤ, ◌-ℤ◌, ◌<ℤ◌, ◌≤ℤ◌, int_le, ◌⊎◌, inl, inr, arith, refl, sym, ap, ap₂, ◌∙◌, subst, append_assoc, append-nil}
 use Rattle.std.specs.List.{AllByRecursion, filter}
 use Rattle.std.proofs.lemmas.Bool.{cond_both, or_from, or_parts, or_left, or_right, false≢true}
 use Rattle.std.proofs.lemmas.Int.{ints}
 use Rattle.std.proofs.lemmas.List.{map-append}
 use Rattle.std.proofs.lemmas.List.Elements.{filter-append}
 use Rattle.std.proofs.lemmas.List.Folds.{list_any-append}
-use Rattle.band_balance.specs.Line.{Entry, Waiting, Line, entry_of, requests, settle, settle_from, give_back, add_permits, entry_named, without, without_waiting, withdraw, cancel, poll_granted}
+use Rattle.band_balance.specs.Line.{Entry, Waiting, Line, entry_of, requests, settle, settle_from, give_back, add_permits, entry_named, without, without_waiting, withdraw, cancel}
 use Rattle.band_balance.specs.Object.{Object, Tag}
 use Rattle.band_balance.specs.Rule.{is}
 use Rattle.band_balance.specs.Laws.{Pairwise, IsOrderly, stands_in, granted_between, GrantsAFront}
@@ -17,7 +17,7 @@ use Rattle.band_balance.proofs.Rename.{all_of_first, all_of_second}
 use Rattle.band_balance.proofs.Requests.{all-weaker, all-without, all-found, found_is_named, all-not_named, requests-poll_granted, requests-cancel, entries-without_waiting, without-append_none}
 use Rattle.band_balance.proofs.Settle.{passed, left, wakers, passed-left, requests-settle, granted-settle, waiting-settle, wakes-settle}
 use Rattle.band_balance.proofs.Shares.{both_of_each}
-use Rattle.band_balance.proofs.Turns.{Becomes, stays, takes, joins, receives, rewakes, returns, ends, comes, goes, drains, forgets, splits, merges, lowers}
+use Rattle.band_balance.proofs.Turns.{Becomes, stays, receives, returns, ends, comes, lowers}
 
 -- what holds always holds of each
 pub each_always : {A : Type 0} (P : A → Type 0) → ((x : A) → P x) → (xs : List A) → AllByRecursion P xs

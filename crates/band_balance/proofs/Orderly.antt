@@ -1,9 +1,9 @@
 -- An object stays in order by each rule: the first that waits waits for more than is free, a name has one request, and each entry fits.
-use Rattle.std.proofs.Common.{◌≡◌, ℕ, ◌+◌, ◌-◌, Bool, true, false, List, [], ◌∷◌, ◌++◌, map, Option, Some, None, IfSome, refl, sym, ap, ◌∙◌, subst}
+use Rattle.std.proofs.Common.{◌≡◌, ℕ, ◌+◌, ◌-◌, Bool, true, false, List, [], ◌∷◌, ◌++◌, map, Option, Some, None, IfSome, refl}
 use Rattle.std.specs.List.{AllByRecursion}
 use Rattle.std.proofs.lemmas.Bool.{cond_both, false≢true}
-use Rattle.band_balance.specs.Line.{Entry, Line, requests, entry_of, drained, entry_named, without}
-use Rattle.band_balance.specs.Object.{Object, Kind, Semaphore, Mutex, ReaderWriter, Mode, Permit, Lock, Read, Write, Tag, tag, is_of, change}
+use Rattle.band_balance.specs.Line.{Entry, Line, requests, entry_of, drained, without}
+use Rattle.band_balance.specs.Object.{Object, Kind, Semaphore, Mutex, ReaderWriter, Mode, Permit, Lock, Read, Write, Tag, is_of, change}
 use Rattle.band_balance.specs.Rule.{Fits, is, IsFresh}
 use Rattle.band_balance.specs.Laws.{Pairwise, IsOrderly}
 use Rattle.band_balance.specs.Settled.{HeadWaits}

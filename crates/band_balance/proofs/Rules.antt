@@ -1,18 +1,17 @@
 -- The laws of an object, for any comparison that tells names apart.
-use Rattle.std.proofs.Common.{◌≡◌, ℕ, ◌<◌, ◌≤◌, Bool, false, true, List, [], map, Option, Some, None, IfSome, ℤ, pos, neg_ℤ, ◌+ℤ◌, ◌≤ℤ◌, refl, sym, subst, arith}
-use Rattle.std.specs.List.{AllByRecursion}
+use Rattle.std.proofs.Common.{◌≡◌, ℕ, ◌≤◌, Bool, false, true, [], pos, neg_ℤ, ◌+ℤ◌, ◌≤ℤ◌, refl, sym, subst, arith}
 use Rattle.std.specs.Str.{bytes_eq}
 use Rattle.std.proofs.lemmas.Int.{ints}
 use Rattle.std.proofs.lemmas.Slice.Eq.{bytes_eq-Decides}
-use Rattle.band_balance.specs.Line.{Entry, Line, requests, u64_max}
-use Rattle.band_balance.specs.Object.{Object, Turn, Kind, Semaphore, Mutex, ReaderWriter, Tag, new_semaphore, new_mutex, new_reader_writer}
+use Rattle.band_balance.specs.Line.{requests, u64_max}
+use Rattle.band_balance.specs.Object.{Object, Turn, Kind, Tag, new_semaphore, new_mutex, new_reader_writer}
 use Rattle.band_balance.specs.Rule.{Rule, IsAllowed, act, brought, removed, joiner, gives_back}
-use Rattle.band_balance.specs.Laws.{Pairwise, permits, IsWithin, shares_of, LetsIn, HasShares, KeepsShares, IsExclusive, IsOrderly, granted_between, GrantsAFront}
+use Rattle.band_balance.specs.Laws.{permits, IsWithin, LetsIn, KeepsShares, IsOrderly, granted_between, GrantsAFront}
 use Rattle.band_balance.proofs.Accounts.{accounts}
 use Rattle.band_balance.proofs.Fronts.{Wakes, wakes-by}
 use Rattle.band_balance.proofs.Held.{TellsApart}
 use Rattle.band_balance.proofs.Orderly.{Queues, queues, orderly-by}
-use Rattle.band_balance.proofs.Shares.{within-by, shares-by, exclusive}
+use Rattle.band_balance.proofs.Shares.{within-by, shares-by}
 use Rattle.band_balance.proofs.Settle.{wakers}
 use Rattle.band_balance.proofs.Turns.{TurnsBy, turns_by}
 

@@ -1,10 +1,10 @@
 -- The bounds of an object, and what a lock has in all: who has it whole is alone.
-use Rattle.std.proofs.Common.{◌≡◌, ℕ, ◌+◌, ◌<◌, ◌≤◌, Bool, true, false, List, [], ◌∷◌, ◌++◌, length, map, Option, Some, None, IfSome, ℤ, pos, neg_ℤ, ◌+ℤ◌, ◌-ℤ◌, ◌≤ℤ◌, int_lt, ◌⊎◌, inl, inr, refl, sym, ap, ◌∙◌, subst, arith, append_assoc}
+use Rattle.std.proofs.Common.{◌≡◌, ℕ, ◌+◌, ◌<◌, ◌≤◌, Bool, true, false, List, [], ◌∷◌, ◌++◌, length, map, Option, IfSome, ℤ, pos, neg_ℤ, ◌+ℤ◌, ◌≤ℤ◌, int_lt, ◌⊎◌, inl, inr, refl, sym, ap, ◌∙◌, subst, arith, append_assoc}
 use Rattle.std.specs.List.{AllByRecursion}
 use Rattle.std.proofs.lemmas.Int.{ints}
-use Rattle.std.proofs.lemmas.Bool.{true≢false, false≢true}
+use Rattle.std.proofs.lemmas.Bool.{true≢false}
 use Rattle.band_balance.specs.Line.{Entry, Line, total, entry_of, u64_max}
-use Rattle.band_balance.specs.Object.{Object, Kind, Semaphore, Mutex, ReaderWriter, Mode, Permit, Lock, Read, Write, Tag, is_of, size_of, would_overflow}
+use Rattle.band_balance.specs.Object.{Object, Kind, Semaphore, Mutex, ReaderWriter, Mode, Permit, Lock, Read, Write, Tag, is_of, size_of}
 use Rattle.band_balance.specs.Rule.{Fits}
 use Rattle.band_balance.specs.Laws.{permits, in_hand, IsWithin, shares_of, LetsIn, HasShares, KeepsShares, ExclusiveAs, IsExclusive, IsOrderly}
 use Rattle.band_balance.proofs.Accounts.{Accounts, Owes, hand, accounts}
@@ -12,7 +12,7 @@ use Rattle.band_balance.proofs.Held.{TellsApart, total-push}
 use Rattle.band_balance.proofs.Rename.{all_of_first, all_of_both}
 use Rattle.band_balance.proofs.Requests.{all-weaker}
 use Rattle.band_balance.proofs.Settle.{total-append, total-cons}
-use Rattle.band_balance.proofs.Turns.{Becomes, stays, takes, joins, receives, rewakes, returns, ends, comes, goes, drains, forgets, splits, merges, lowers}
+use Rattle.band_balance.proofs.Turns.{Becomes, comes, goes, drains, forgets}
 
 -- what comes fits in
 has_room : (z : ℤ) (g h n : ℕ) → int_lt (pos u64_max) (z +ℤ pos (g + h + n)) ≡ false → (z +ℤ pos (g + h) +ℤ pos n) ≤ℤ pos u64_max

@@ -1,8 +1,8 @@
 -- What an allowed rule makes of the line of an object and of what is held of it, whatever it answers.
-use Rattle.std.proofs.Common.{◌≡◌, ℕ, ◌+◌, ◌-◌, ◌≤◌, Bool, true, false, cond, List, ◌∷◌, [], ◌++◌, Option, Some, None, nat_le, refl, sym, ap, ap₂, ◌∙◌, subst}
-use Rattle.std.proofs.lemmas.Bool.{cond-true, cond-false, leb-true, true≢false, false≢true}
-use Rattle.band_balance.specs.Line.{Entry, Line, requests, is_served, take_permits, give_back, join, drained, entry_named, without, poll_granted, poll_waiting, cancel}
-use Rattle.band_balance.specs.Object.{Object, Turn, Answer, Done, Ready, Pending, Nothing, Drained, Figures, turn, hold, change, Kind, Semaphore, Mutex, ReaderWriter, Mode, Permit, Read, Write, Tag, tag, is_of, ask, poll_of, try_for, drop_of, split_of, merge_of, downgrade_of, would_overflow, would_owe_too_much}
+use Rattle.std.proofs.Common.{◌≡◌, ℕ, ◌+◌, ◌-◌, ◌≤◌, Bool, true, false, List, ◌∷◌, [], ◌++◌, Option, Some, None, nat_le, refl, sym, ap, ap₂, ◌∙◌, subst}
+use Rattle.std.proofs.lemmas.Bool.{cond-true, cond-false, leb-true, false≢true}
+use Rattle.band_balance.specs.Line.{Entry, Line, is_served, take_permits, give_back, join, drained, entry_named, without, poll_granted, poll_waiting, cancel}
+use Rattle.band_balance.specs.Object.{Object, Answer, Done, Ready, Pending, Nothing, Drained, turn, hold, change, Kind, Semaphore, Mutex, ReaderWriter, Permit, Read, Write, Tag, tag, is_of, poll_of, drop_of, split_of, merge_of, downgrade_of, would_overflow, would_owe_too_much}
 use Rattle.band_balance.specs.Rule.{Rule, Ask, Poll, Try, Drop, Release, Reduce, Drain, Forget, Split, Merge, Downgrade, Status, Fits, is, act, IsFresh, Holds, IsAllowed, size_in, brought, removed, joiner, gives_back}
 
 -- by whether it may let the line settle, what it brings and what it takes away, and who joins
@@ -37,7 +37,7 @@ pub record TurnsBy {K : Type 0} (same : K → K → Bool) (object : Object (Tag 
   pub becomes : Becomes same object (gives_back rule) (brought rule) (removed same rule object) (joiner rule object) line held
 
 -- only a reader-writer lock is written
-write_of : (kind : Kind) → is_of kind Write ≡ true → (max : ℕ) × (kind ≡ ReaderWriter max)
+pub write_of : (kind : Kind) → is_of kind Write ≡ true → (max : ℕ) × (kind ≡ ReaderWriter max)
 write_of Semaphore is = absurd (false≢true is)
 write_of Mutex is = absurd (false≢true is)
 write_of (ReaderWriter max) is = (max, refl)

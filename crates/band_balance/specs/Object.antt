@@ -1,5 +1,5 @@
 -- An object: its kind, its line and what is held of it. Each call answers, wakes some wakers in order, and leaves the object.
-use Rattle.std.specs.Prelude.{ℕ, ◌+◌, ◌-◌, ◌^◌, Bool, true, false, List, [], ◌∷◌, ◌++◌, length, ℤ, pos, neg_ℤ, ◌+ℤ◌, ◌-ℤ◌, int_lt, nat_le, if◌then◌else◌, Option, Some, None}
+use Rattle.std.specs.Prelude.{ℕ, ◌+◌, ◌-◌, Bool, true, false, List, [], ◌∷◌, ◌++◌, length, ℤ, nat_le, if◌then◌else◌, Option, Some, None}
 use Rattle.band_balance.specs.Line.{Entry, Line, open_line, total, is_served, take_permits, give_back, join, available, drained, overflows, owes_too_much, entry_named, without, poll_granted, poll_waiting, cancel}
 
 pub data Kind : Type 0 where

@@ -1,5 +1,5 @@
 -- What is added or taken in two steps.
-use Rattle.std.proofs.Common.{◌≡◌, ℕ, List, ◌++◌, Option, Some, None, refl, sym, ◌∙◌, ap, append_assoc, length, length-append, ◌+◌, ◌≤◌, arith}
+use Rattle.std.proofs.Common.{ℕ, List, ◌++◌, Option, Some, None, refl, sym, ◌∙◌, ap, append_assoc, length, length-append, ◌+◌, ◌≤◌, arith}
 use Rattle.std.specs.Io.KnownBytes.{Appends, Consumes}
 use Rattle.std.proofs.KnownBytes.{Appends-trans}
 use Rattle.band_base.specs.Device.{Rose, AppendsPrefix}
@@ -26,15 +26,6 @@ front_after a b x y z p q = record {
   rest = q.rest;
   whole = rw (append_assoc, q.whole) refl;
   appended = Appends-trans x y z a q.prefix p q.appended;
-}
-
--- a prefix is one of a longer text
-pub front_of_longer : (a b : List ℕ) (x y : Option (List ℕ)) → AppendsPrefix a x y → AppendsPrefix (a ++ b) x y
-front_of_longer a b x y q = record {
-  prefix = q.prefix;
-  rest = q.rest ++ b;
-  whole = rw (← append_assoc, q.whole) refl;
-  appended = q.appended;
 }
 
 -- a count that rose after it had not fallen

@@ -1,11 +1,10 @@
 -- What an exit status says of the answer.
-use Rattle.std.proofs.Common.{◌≡◌, ◌≢◌, ℕ, ◌⊎◌, inl, inr, List, [], ◌∷◌, ◌++◌, Option, Some, None, Result, Err, refl, sym, subst, append-nil, arith}
-use Rattle.std.specs.Io.KnownBytes.{Appends}
+use Rattle.std.proofs.Common.{◌≡◌, ◌≢◌, ℕ, ◌⊎◌, inl, inr, List, [], ◌∷◌, ◌++◌, Option, Some, None, Result, Err, refl, subst, arith}
 use Rattle.std.proofs.KnownBytes.{Appends-nil}
 use Rattle.band_base.specs.Device.{AppendsPrefix}
 use Rattle.band_play.specs.declared.fault.PlayFault.{PlayFault}
 use Rattle.band_play.specs.declared.fault.PlayFault.TheVariants as faults
-use Rattle.band_play.specs.Script.{calls_within, transcript}
+use Rattle.band_rules.specs.Script.{calls_within, transcript}
 use Rattle.band_play.specs.Text.{fault_text, usage_text}
 use Rattle.band_play.specs.Play.{WritesFront, Told, ToldText, ToldWith, status_of}
 

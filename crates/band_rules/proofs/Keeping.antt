@@ -1,23 +1,24 @@
 -- Permits are kept by each step, and so over any calls.
-use Rattle.std.proofs.Common.{◌≡◌, ℕ, ◌+◌, Bool, true, false, cond, List, [], ◌∷◌, ◌++◌, Option, Some, None, ℤ, pos, ◌+ℤ◌, refl, sym, ap, ap₂, ◌∙◌, subst, arith, append-nil}
+use Rattle.std.proofs.Common.{◌≡◌, ℕ, ◌+◌, true, false, cond, List, [], ◌∷◌, ◌++◌, Option, Some, ℤ, pos, ◌+ℤ◌, refl, sym, ap, ap₂, ◌∙◌, subst, arith, append-nil}
 use Rattle.std.specs.List.{AllByRecursion}
 use Rattle.std.specs.Str.{bytes_eq}
 use Rattle.std.proofs.lemmas.Int.{ints}
 use Rattle.std.proofs.lemmas.Bool.{cond-true, cond-false}
 use Rattle.band_balance.specs.Laws.{permits, LetsIn}
 use Rattle.band_balance.specs.Object.{Object}
-use Rattle.band_balance.specs.Rule.{Rule, act, brought, removed}
+use Rattle.band_balance.specs.Rule.{Rule, act}
 use Rattle.band_balance.proofs.Held.{by_bool}
 use Rattle.band_balance.proofs.Rules.{bytes_told, adds_up-act}
 use Rattle.band_script.specs.Call.{ForReaders}
 use Rattle.band_script.specs.declared.call.Call.{Call}
 use Rattle.band_rules.specs.Kept.{object_named, permits_of, brought_by, removed_by, brought_from, removed_from}
-use Rattle.band_rules.specs.Plan.{Plan, Refuse, Make, Act, plan}
+use Rattle.band_rules.specs.Plan.{Plan, Make, Act, plan}
 use Rattle.band_rules.specs.Script.{state_from, state_after}
 use Rattle.band_rules.specs.State.{State, Named, Tag}
 use Rattle.band_rules.specs.Step.{Effect, perform, with_object, step}
 use Rattle.band_rules.proofs.Planned.{MayMake, MayAct}
-use Rattle.band_rules.proofs.Runs.{IsInOrder, of_step, in_order-step, lets-step}
+use Rattle.band_rules.specs.Order.{IsInOrder}
+use Rattle.band_rules.proofs.Runs.{of_step, in_order-step, lets-step}
 use Rattle.band_rules.proofs.States.{IsAt, here, later, all_at, IsAbsent, with_object_here, with_object_later}
 
 -- which object has a name

@@ -1,31 +1,31 @@
 -- What a call plans it may do: the one walk over all calls.
-use Rattle.std.proofs.Common.{◌≡◌, ℕ, ◌^◌, ◌<◌, ◌≤◌, Bool, true, false, not, cond, List, [], ◌∷◌, ◌++◌, Option, Some, None, IfSome, ◌&&◌, ◌⊎◌, inl, inr, Result, Ok, Err, refl, sym, ap, ◌∙◌, subst, arith}
-use Rattle.std.specs.List.{AllByRecursion, list_all}
+use Rattle.std.proofs.Common.{◌≡◌, ℕ, ◌<◌, ◌≤◌, Bool, true, false, not, cond, List, ◌++◌, Option, Some, None, IfSome, ◌&&◌, ◌⊎◌, inl, inr, Ok, Err, refl, sym, subst, arith}
+use Rattle.std.specs.List.{AllByRecursion}
 use Rattle.std.specs.Option.{option_or}
-use Rattle.std.specs.Prelude.{IsSome, IsTrue}
+use Rattle.std.specs.Prelude.{IsSome}
 use Rattle.std.specs.Str.{bytes_eq}
-use Rattle.std.proofs.lemmas.Bool.{false≢true, true≢false, ltb-true, and_parts, not-false}
+use Rattle.std.proofs.lemmas.Bool.{ltb-true, not-false}
 use Rattle.band_base.specs.declared.refusal.Refusal.{Refusal}
 use Rattle.band_base.specs.declared.refusal.Refusal.TheVariants as refusals
-use Rattle.band_balance.specs.Laws.{IsWithin, LetsIn, IsOrderly}
+use Rattle.band_balance.specs.Laws.{IsWithin, LetsIn}
 use Rattle.band_balance.specs.Line.{Entry, requests, entry_named, is_served, u64_max}
 use Rattle.band_balance.specs.Object.{Object, Kind, Semaphore, Mutex, ReaderWriter, Mode, Permit, Lock, Read, Write, tag, is_of, size_of, new_semaphore, new_mutex, new_reader_writer, would_overflow, would_owe_too_much}
 use Rattle.band_balance.specs.Rule.{Rule, Fits, Holds, IsAllowed, joiner}
 use Rattle.band_balance.specs.Rule.{is as is_tag}
 use Rattle.band_balance.specs.Rule as rules
-use Rattle.band_balance.proofs.Held.{by_bool}
 use Rattle.band_balance.proofs.Requests.{all-found, entry_named-append}
 use Rattle.band_balance.proofs.Shares.{both_of_each}
-use Rattle.band_balance.proofs.Rules.{bytes_told, NewObject, new_semaphore_is, new_mutex_is, new_reader_writer_is, within_new}
+use Rattle.band_balance.proofs.Rules.{NewObject, new_semaphore_is, new_mutex_is, new_reader_writer_is, within_new}
 use Rattle.band_script.specs.Call.{ForReaders}
 use Rattle.band_script.specs.Number.{is_number}
 use Rattle.band_script.specs.declared.call.Call.{Call}
 use Rattle.band_script.specs.declared.call.Call.TheVariants as calls
 use Rattle.band_rules.specs.Bounds.{HasNumbers}
+use Rattle.band_rules.specs.Order.{NamesDiffer, Sound}
 use Rattle.band_rules.specs.Plan.{Plan, Refuse, Make, Act, ◌>>=◌, object_of, object_for, asked_object, owner, same_mode, lender, if_live, if_unused, refuse_if, making, asking, trying, most_readers, plan}
 use Rattle.band_rules.specs.State.{State, Named, Tag, Standing, Absent, AnObject, ARequest, AHolding, standing}
 use Rattle.band_rules.specs.Woken.{gives_back}
-use Rattle.band_rules.proofs.States.{IsAt, NamesDiffer, each_is_at, all_at, same_named, Found, found, IsAbsent, absent}
+use Rattle.band_rules.proofs.States.{IsAt, each_is_at, all_at, same_named, Found, found, IsAbsent, absent}
 
 -- a new object under a name that is absent
 pub record MayMake (call : Call) (state : State) (made : List ℕ) (object : Object Tag) : Type 0 where
@@ -130,9 +130,6 @@ joiner_is : (b : Bool) (P : List ℕ → Type 0) (name : List ℕ) → P name �
 joiner_is true P name p = tt
 joiner_is false P name p = p
 
-abbrev pub Sound : Named → Type 0
-Sound named = IsOrderly bytes_eq named.object
-
 module _ (state : State) (differ : NamesDiffer state) (sound : AllByRecursion Sound state) (call : Call) where
   abbrev Good : Plan → Type 0
   Good plan = IsPlanned call state plan
@@ -189,7 +186,7 @@ most_fits : (n : Option ℕ) (made : List ℕ) → HasNumbers (calls.Rw made n) 
 most_fits None made small = omega arith
 most_fits (Some n) made small = number_fits n small
 
-some_readers : (n : Option ℕ) (made : List ℕ) → ForReaders (calls.Rw made n) → 0 < most_readers n
+pub some_readers : (n : Option ℕ) (made : List ℕ) → ForReaders (calls.Rw made n) → 0 < most_readers n
 some_readers None made some = omega arith
 some_readers (Some n) made some = ltb-true 0 n some
 

@@ -1,9 +1,9 @@
 -- What calls in a row keep of the objects of a state.
-use Rattle.std.proofs.Common.{◌≡◌, ℕ, ◌<◌, List, [], ◌∷◌, ◌++◌, refl, sym, subst}
+use Rattle.std.proofs.Common.{ℕ, List, [], ◌∷◌, sym, subst}
 use Rattle.std.specs.List.{AllByRecursion}
 use Rattle.std.specs.Str.{bytes_eq}
 use Rattle.band_base.specs.declared.refusal.Refusal.{Refusal}
-use Rattle.band_balance.specs.Laws.{IsOrderly, IsWithin, LetsIn, KeepsShares, IsExclusive}
+use Rattle.band_balance.specs.Laws.{IsWithin, LetsIn, KeepsShares, IsExclusive}
 use Rattle.band_balance.specs.Object.{Object}
 use Rattle.band_balance.specs.Rule.{Rule, act}
 use Rattle.band_balance.specs.Settled.{HeadWaits}
@@ -14,17 +14,13 @@ use Rattle.band_balance.proofs.Shares.{both_of_each, exclusive}
 use Rattle.band_script.specs.Call.{ForReaders}
 use Rattle.band_script.specs.declared.call.Call.{Call}
 use Rattle.band_rules.specs.Bounds.{HasNumbers}
+use Rattle.band_rules.specs.Order.{Sound, IsInOrder}
 use Rattle.band_rules.specs.Plan.{Plan, Refuse, Make, Act, plan}
 use Rattle.band_rules.specs.Script.{state_from, state_after}
 use Rattle.band_rules.specs.State.{State, Named, Tag}
 use Rattle.band_rules.specs.Step.{Effect, perform, step}
-use Rattle.band_rules.proofs.Planned.{MayMake, MayAct, IsPlanned, Sound, planned}
-use Rattle.band_rules.proofs.States.{NamesDiffer, all_at, all-with_object, names_differ-with_object, names_differ-push}
-
--- a state in order: the names of its objects differ, and each object is in order
-pub record IsInOrder (state : State) : Type 0 where
-  pub differ : NamesDiffer state
-  pub sound : AllByRecursion Sound state
+use Rattle.band_rules.proofs.Planned.{MayMake, MayAct, IsPlanned, planned}
+use Rattle.band_rules.proofs.States.{all_at, all-with_object, names_differ-with_object, names_differ-push}
 
 -- what is so of each plan that a call may have is so of its step
 module _ (state : State) (is : IsInOrder state) (call : Call) (P : Plan → Effect → Type 0)

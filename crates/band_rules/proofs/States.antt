@@ -1,19 +1,18 @@
 -- What is found under a name in a state, and the state with another object under a name.
-use Rattle.std.proofs.Common.{◌≡◌, ℕ, Bool, true, false, cond, List, [], ◌∷◌, ◌++◌, Option, Some, None, refl, sym, ap, ◌∙◌, subst}
+use Rattle.std.proofs.Common.{◌≡◌, ℕ, Bool, true, false, List, [], ◌∷◌, ◌++◌, Option, Some, None, refl, sym, ◌∙◌}
 use Rattle.std.specs.List.{AllByRecursion}
 use Rattle.std.specs.Str.{bytes_eq}
-use Rattle.std.proofs.lemmas.Bool.{cond-true, cond-false, cond_both, false≢true, true≢false}
-use Rattle.band_balance.specs.Laws.{Pairwise}
+use Rattle.std.proofs.lemmas.Bool.{cond-true, cond-false, cond_both, false≢true}
 use Rattle.band_balance.specs.Line.{Entry, requests, entry_named}
 use Rattle.band_balance.specs.Object.{Object}
 use Rattle.band_balance.specs.Rule.{is, IsFresh}
 use Rattle.band_balance.specs.Rule.{is as is_tag}
-use Rattle.band_balance.proofs.Held.{by_bool, other_way}
+use Rattle.band_balance.proofs.Held.{other_way}
 use Rattle.band_balance.proofs.Orderly.{pairwise-push}
-use Rattle.band_balance.proofs.Rename.{all_of_both}
 use Rattle.band_balance.proofs.Requests.{all-weaker}
 use Rattle.band_balance.proofs.Rules.{bytes_told}
 use Rattle.band_balance.proofs.Shares.{both_of_each}
+use Rattle.band_rules.specs.Order.{NamesDiffer}
 use Rattle.band_rules.specs.State.{State, Named, Tag, Standing, Absent, AnObject, ARequest, AHolding, standing_at, standing}
 use Rattle.band_rules.specs.Step.{with_object}
 
@@ -21,10 +20,6 @@ use Rattle.band_rules.specs.Step.{with_object}
 pub data IsAt (named : Named) : State → Type 0 where
   here : {rest : State} → IsAt named (named ∷ rest)
   later : {first : Named} {rest : State} → bytes_eq named.name first.name ≡ false → IsAt named rest → IsAt named (first ∷ rest)
-
--- the names of the objects differ
-abbrev pub NamesDiffer : State → Type 0
-NamesDiffer state = Pairwise (λ (a b : Named). bytes_eq a.name b.name ≡ false) state
 
 pub each_is_at : (state : State) → NamesDiffer state → AllByRecursion (λ (named : Named). IsAt named state) state
 each_is_at [] differ = tt

@@ -1,10 +1,10 @@
 -- Those in a line stand in the order in which they joined it, those that were granted first.
-use Rattle.std.proofs.Common.{◌≡◌, ℕ, ◌+◌, ◌<◌, Bool, true, false, cond, List, [], ◌∷◌, ◌++◌, map, Option, Some, None, IfSome, refl, sym, ap, ap₂, ◌∙◌, subst, arith}
+use Rattle.std.proofs.Common.{◌≡◌, ℕ, ◌+◌, ◌<◌, false, cond, List, [], ◌∷◌, map, Option, Some, None, IfSome, sym, subst, arith}
 use Rattle.std.specs.List.{AllByRecursion}
 use Rattle.std.specs.Str.{bytes_eq}
 use Rattle.std.proofs.lemmas.Bool.{cond-true, cond-false}
 use Rattle.band_balance.specs.Laws.{Pairwise}
-use Rattle.band_balance.specs.Line.{Entry, Line, requests, entry_of}
+use Rattle.band_balance.specs.Line.{Entry, requests, entry_of}
 use Rattle.band_balance.specs.Object.{Object}
 use Rattle.band_balance.specs.Rule.{Rule, is, IsFresh, joiner, act}
 use Rattle.band_balance.proofs.Fronts.{each_always, pairwise-cross, unmapped}
@@ -16,12 +16,13 @@ use Rattle.band_balance.proofs.Rules.{bytes_told, queues-act}
 use Rattle.band_balance.proofs.Shares.{both_of_each}
 use Rattle.band_script.specs.declared.call.Call.{Call}
 use Rattle.band_rules.specs.Joined.{is_joiner, joins, joined_from, joined, StandInTurn, GrantedInTurn}
-use Rattle.band_rules.specs.Plan.{Plan, Act, plan}
+use Rattle.band_rules.specs.Plan.{plan}
 use Rattle.band_rules.specs.Script.{state_from, state_after}
 use Rattle.band_rules.specs.State.{State, Named, Tag}
-use Rattle.band_rules.specs.Step.{perform, step}
+use Rattle.band_rules.specs.Step.{step}
 use Rattle.band_rules.proofs.Planned.{MayAct}
-use Rattle.band_rules.proofs.Runs.{IsInOrder, of_step, in_order-step}
+use Rattle.band_rules.specs.Order.{IsInOrder}
+use Rattle.band_rules.proofs.Runs.{of_step, in_order-step}
 use Rattle.band_rules.proofs.States.{IsAbsent, all_at, all-with_object}
 
 -- by the numbers of the calls at which names joined, all below `now`

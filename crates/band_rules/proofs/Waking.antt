@@ -1,12 +1,12 @@
 -- A call wakes those that waited before it and are granted after it, and nobody where it gives nothing back. A refused call changes nothing.
-use Rattle.std.proofs.Common.{◌≡◌, ℕ, true, false, List, [], ◌∷◌, ◌++◌, map, refl, sym, ap, ap₂, ◌∙◌, subst, append-nil}
+use Rattle.std.proofs.Common.{◌≡◌, true, false, List, [], ◌∷◌, ◌++◌, refl, sym, ap, ap₂, ◌∙◌, subst, append-nil}
 use Rattle.std.specs.List.{AllByRecursion}
 use Rattle.std.specs.Str.{bytes_eq}
 use Rattle.band_base.specs.declared.refusal.Refusal.{Refusal}
 use Rattle.band_balance.specs.Laws.{granted_between, GrantsAFront}
 use Rattle.band_balance.specs.Line.{Waiting}
 use Rattle.band_balance.specs.Object.{Object, Answer, Done, Ready, Pending, Nothing, Drained, Figures}
-use Rattle.band_balance.specs.Rule.{Rule, act}
+use Rattle.band_balance.specs.Rule.{act}
 use Rattle.band_balance.proofs.Fronts.{granted-same, front-same}
 use Rattle.band_balance.proofs.Rules.{bytes_told, woken-act, nobody-act, front-act}
 use Rattle.band_balance.proofs.Settle.{wakers}
@@ -15,10 +15,10 @@ use Rattle.band_rules.specs.declared.reply.Reply.TheVariants as replies
 use Rattle.band_rules.specs.Plan.{Plan, Refuse, Make, Act, plan}
 use Rattle.band_rules.specs.Script.{state_after}
 use Rattle.band_rules.specs.State.{State, Named, Tag}
-use Rattle.band_rules.specs.Step.{Effect, reply_of, perform, with_object, step}
+use Rattle.band_rules.specs.Step.{reply_of, perform, with_object, step}
 use Rattle.band_rules.specs.Woken.{granted_now, WakesTheGranted, EachGrantsAFront, RefusesWhole, gives_back}
-use Rattle.band_rules.proofs.Planned.{MayAct, Sound}
-use Rattle.band_rules.proofs.Runs.{IsInOrder, of_step, in_order-after}
+use Rattle.band_rules.specs.Order.{Sound, IsInOrder}
+use Rattle.band_rules.proofs.Runs.{of_step, in_order-after}
 use Rattle.band_rules.proofs.States.{IsAt, here, later, with_object_here, with_object_later}
 
 abbrev AllSound : State → Type 0

@@ -1,11 +1,9 @@
 -- The calls of a script are ones that a script can write.
-use Rattle.std.proofs.Common.{◌≡◌, ℕ, Bool, true, false, cond, ◌&&◌, List, [], ◌∷◌, Option, Some, None, refl}
+use Rattle.std.proofs.Common.{◌≡◌, ℕ, Bool, true, false, cond, List, [], ◌∷◌, Option, Some, None, refl}
 use Rattle.std.specs.List.{AllByRecursion, find, list_all}
-use Rattle.std.specs.Str.{bytes_eq}
 use Rattle.std.proofs.lemmas.Bool.{and_parts}
-use Rattle.band_script.specs.Call.{parts, has_readers, is_call, IsCall, ForReaders}
+use Rattle.band_script.specs.Call.{parts, has_readers, IsCall, ForReaders}
 use Rattle.band_script.specs.Grammar.{is_line, readings, words_of, call_of}
-use Rattle.band_script.specs.Number.{is_number}
 use Rattle.band_script.specs.Name.{is_name}
 use Rattle.band_script.specs.declared.call.Call.{Call}
 use Rattle.band_rules.specs.Bounds.{HasNumbers}

@@ -1,4 +1,5 @@
 pub mod State
+pub mod Order
 pub mod Plan
 pub mod Step
 pub mod Text

@@ -4,7 +4,6 @@ use Rattle.std.specs.Prelude.{ℕ, ◌-◌, ◌^◌, Bool, true, false, not, if�
 use Rattle.std.specs.Str.{bytes_eq}
 use Rattle.band_base.specs.declared.refusal.Refusal.{Refusal}
 use Rattle.band_base.specs.declared.refusal.Refusal.TheVariants.{Unknown, Kind, Same, Taken, Finished, Other, Overflow, Debt}
-use Rattle.band_balance.specs.Line.{Entry}
 use Rattle.band_balance.specs.Object.{Object, Mode, Permit, Lock, Read, Write, tag, is_of, size_of, new_semaphore, new_mutex, new_reader_writer, would_overflow, would_owe_too_much}
 use Rattle.band_balance.specs.Object as objects
 use Rattle.band_balance.specs.Rule.{Rule}

@@ -1,5 +1,5 @@
 -- A script: its lines, the calls that they stand for, its transcript, and the outcome of its bytes.
-use Rattle.std.specs.Prelude.{ℕ, ◌+◌, Bool, true, false, ◌==◌, nat_lt, if◌then◌else◌, List, [], ◌∷◌, ◌++◌, length, take, Option, Some, None}
+use Rattle.std.specs.Prelude.{ℕ, ◌+◌, Bool, ◌==◌, nat_lt, if◌then◌else◌, List, [], ◌∷◌, ◌++◌, length, take, Option, Some, None}
 use Rattle.std.specs.List.{slice_split}
 use Rattle.band_script.specs.declared.call.Call.{Call}
 use Rattle.band_script.specs.Grammar.{call_of}

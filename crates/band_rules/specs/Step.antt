@@ -7,7 +7,7 @@ use Rattle.band_script.specs.declared.call.Call.{Call}
 use Rattle.band_rules.specs.declared.reply.Reply.{Reply}
 use Rattle.band_rules.specs.declared.reply.Reply.TheVariants as replies
 use Rattle.band_rules.specs.Plan.{Plan, Refuse, Make, Act, plan}
-use Rattle.band_rules.specs.State.{State, Named, Tag}
+use Rattle.band_rules.specs.State.{State, Tag}
 
 pub record Effect : Type 0 where
   pub reply : Reply

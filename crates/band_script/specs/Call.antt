@@ -40,9 +40,17 @@ parts (Merge kept spent) = written (codes "merge") (kept ∷ spent ∷ []) []
 parts (Downgrade name) = written (codes "downgrade") (name ∷ []) []
 parts (Status name) = written (codes "status") (name ∷ []) []
 
+-- the words after that of the form
+abbrev pub operands : List (List ℕ) → List ℕ → List (List ℕ)
+operands names numbers = names ++ map decimal numbers
+
 -- the words of a call
 abbrev pub spelling : Call → List (List ℕ)
-spelling call = (parts call).form ∷ (parts call).names ++ map decimal (parts call).numbers
+spelling call = (parts call).form ∷ operands (parts call).names (parts call).numbers
+
+-- names that are some, and numbers
+abbrev pub are_operands : List (List ℕ) → List ℕ → Bool
+are_operands names numbers = list_all is_name names && list_all is_number numbers
 
 -- a lock is made for one reader at least
 abbrev pub has_readers : Call → Bool
@@ -54,7 +62,7 @@ ForReaders call = IsTrue (has_readers call)
 
 -- a call that a script can write
 abbrev pub is_call : Call → Bool
-is_call call = list_all is_name (parts call).names && list_all is_number (parts call).numbers && has_readers call
+is_call call = are_operands (parts call).names (parts call).numbers && has_readers call
 
 abbrev pub IsCall : Call → Type 0
 IsCall call = IsTrue (is_call call)

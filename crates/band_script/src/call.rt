@@ -1,9 +1,10 @@
 //! The calls that the lines of a script stand for.
+ghost use Rattle.std.specs.Prelude.{◌≡◌};
 
 use crate::Name;
 
 /// What a line asks for.
-#[derive(Drop)]
+#[derive(Debug, Clone, Drop, PartialEq, Eq)]
 pub enum Call {
     /// `sem S N`: makes a semaphore of `n` permits.
     Sem {
@@ -114,3 +115,11 @@ pub enum Call {
     },
 }
 
+impl Call {
+    /// The same call again. It takes no memory.
+    pub fn copy(&self) -> Call
+        ensures { result ≡ self.now }
+    {
+        self.clone().unwrap()
+    }
+}
