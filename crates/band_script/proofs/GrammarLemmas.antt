@@ -1,0 +1,165 @@
+-- A line, the words of its call, and the form that its first word names.
+use Rattle.std.proofs.Common.{◌≡◌, ℕ, ◌+◌, ◌*◌, ◌≤◌, Bool, true, false, cond, List, [], ◌∷◌, ◌++◌, length, map, Some, None, refl, sym, ap, ap₂, ◌∙◌, subst, length-append, lit≤, lit<, arith}
+use Rattle.std.specs.Prelude.{◌==◌, ◌≢◌, codes, not, IsTrue, Option, if◌then◌else◌}
+use Rattle.std.specs.Fmt.{decimal}
+use Rattle.std.specs.Option.{option_to_list}
+use Rattle.std.specs.List.{All, list_all, list_any, join_with_byte}
+use Rattle.std.specs.Str.{bytes_eq}
+use Rattle.std.proofs.lemmas.Bool.{and_from, and_parts, false≢true, ltb-true}
+use Rattle.std.proofs.lemmas.Fmt.{decimal_injective}
+use Rattle.std.proofs.lemmas.List.Splits.{join_with_byte-slice_split, slice_split_at, slice_split_none}
+use Rattle.band_script.specs.declared.call.Call.{Call}
+use Rattle.band_script.specs.declared.call.Call.TheVariants as calls
+use Rattle.band_script.specs.declared.form.Form.{Form}
+use Rattle.band_script.specs.declared.form.OneName.{OneName}
+use Rattle.band_script.specs.declared.form.OneName.TheVariants as of_one_name
+use Rattle.band_script.specs.declared.form.Form.TheVariants as forms
+use Rattle.band_script.specs.declared.form.NameNumber.{NameNumber}
+use Rattle.band_script.specs.declared.form.NameNumber.TheVariants as of_name_number
+use Rattle.band_script.specs.declared.form.TwoNames.{TwoNames}
+use Rattle.band_script.specs.declared.form.TwoNames.TheVariants as of_two_names
+use Rattle.band_script.specs.declared.form.TwoNamesNumber.{TwoNamesNumber}
+use Rattle.band_script.specs.declared.form.TwoNamesNumber.TheVariants as of_two_names_number
+use Rattle.band_script.specs.Call.{Parts, are_operands, operands, parts, spelling, written, IsCall, is_call, has_readers}
+use Rattle.band_script.specs.Grammar.{words_of, IsLine}
+use Rattle.band_script.specs.Inner.Forms.{word_of, IsWritten}
+use Rattle.band_script.specs.Inner.Reading.{ReadsOperands}
+use Rattle.band_script.specs.Name.{is_name}
+use Rattle.band_script.specs.Number.{is_number}
+use Rattle.band_script.proofs.NameLemmas.{name_has_no_space}
+use Rattle.band_script.proofs.NumberLemmas.{number_has_no_space}
+use Rattle.band_script.proofs.WordLemmas.{no_space}
+
+-- words that are joined by spaces are cut there again
+cut_again : (word : List ℕ) (names : List (List ℕ)) (numbers : List ℕ) → All (λ byte. (byte == 32) ≡ false) word → list_all is_name names ≡ true → list_all is_number numbers ≡ true
+    → words_of (join_with_byte 32 (word ∷ operands names numbers)) ≡ word ∷ operands names numbers
+cut_again word [] [] one names_are numbers_are = slice_split_none (λ byte. byte == 32) word one
+cut_again word [] (n ∷ numbers) one names_are numbers_are =
+    let parts = and_parts _ _ numbers_are in
+    slice_split_at (λ byte. byte == 32) word 32 _ one refl ∙ ap (λ words. word ∷ words) (cut_again (decimal n) [] numbers (number_has_no_space n parts.0) refl parts.1)
+cut_again word (name ∷ names) numbers one names_are numbers_are =
+    let parts = and_parts _ _ names_are in
+    slice_split_at (λ byte. byte == 32) word 32 _ one refl ∙ ap (λ words. word ∷ words) (cut_again name names numbers (name_has_no_space name parts.0) parts.1 numbers_are)
+
+-- the word of a form has no space
+call_word : (call : Call) → list_all (λ byte. not (byte == 32)) (parts call).form ≡ true
+call_word (calls.Rw made (Some n)) = refl
+call_word call = refl
+
+-- the words of a line are those of its call
+pub line_words : (line : List ℕ) (call : Call) → IsLine line call → words_of line ≡ spelling call
+line_words line call is =
+    let operands_are = and_parts _ _ (and_parts _ _ is.0).0 in
+    ap words_of is.1 ∙ cut_again (parts call).form (parts call).names (parts call).numbers (no_space _ refl _ (call_word call)) operands_are.0 operands_are.1
+
+-- a line whose first word is that of a form, with the other words of a call of the form, stands for the call
+pub written_line : (line : List ℕ) (form : Form) (rest : List ℕ) (names : List (List ℕ)) (numbers : List ℕ) (call : Call) → line ≡ word_of form ++ 32 ∷ rest → IsWritten call form names numbers
+    → IsTrue (are_operands names numbers) × (words_of rest ≡ operands names numbers) → IsLine line call
+written_line line form rest names numbers call begins is read =
+    let word : parts call ≡ written (word_of form) names numbers = is.0 in
+    let whole : IsTrue (are_operands (parts call).names (parts call).numbers) = rw word read.0 in
+    let one : All (λ byte. (byte == 32) ≡ false) (word_of form) = subst (λ (p : Parts). All (λ byte. (byte == 32) ≡ false) p.form) word (no_space _ refl _ (call_word call)) in
+    let words : words_of line ≡ spelling call =
+    ap words_of begins ∙ slice_split_at (λ byte. byte == 32) (word_of form) 32 rest one refl ∙ ap (λ words. word_of form ∷ words) read.1 ∙ sym (ap (λ (p : Parts). p.form ∷ operands p.names p.numbers) word) in
+    (and_from _ _ whole is.1, sym (join_with_byte-slice_split 32 line) ∙ ap (join_with_byte 32) words)
+
+-- the first word and the others of a line that stands for a call
+pub first_and_others : (word rest : List ℕ) (call : Call) → list_all (λ byte. not (byte == 32)) word ≡ true → IsLine (word ++ 32 ∷ rest) call
+    → (word ≡ (parts call).form) × (words_of rest ≡ operands (parts call).names (parts call).numbers)
+first_and_others word rest call one is =
+    let words = sym (slice_split_at (λ byte. byte == 32) word 32 rest (no_space _ refl word one) refl) ∙ line_words _ call is in
+    (cc, cc)
+
+-- how many names and how many numbers follow the word of a form. After `rw` the number may be left out
+abbrev counts_after : List ℕ → ℕ × ℕ
+counts_after word =
+    let is_among = list_any (bytes_eq word) in
+    if is_among (codes "mutex" ∷ codes "drop" ∷ codes "forget" ∷ codes "downgrade" ∷ codes "status" ∷ []) then (1, 0)
+    else if is_among (codes "trylock" ∷ codes "tryread" ∷ codes "trywrite" ∷ codes "merge" ∷ []) then (2, 0)
+    else if is_among (codes "lock" ∷ codes "read" ∷ codes "write" ∷ codes "try" ∷ codes "split" ∷ []) then (2, 1)
+    else if is_among (codes "ask" ∷ []) then (2, 2)
+    else (1, 1)
+
+call_counts : (call : Call) → bytes_eq (parts call).form (codes "rw") ≡ false → ◌≡◌ {A = ℕ × ℕ} (length (parts call).names, length (parts call).numbers) (counts_after (parts call).form)
+call_counts (calls.Rw made None) other = cc
+call_counts (calls.Rw made (Some n)) other = cc
+call_counts call other = refl
+
+-- where the other words are not so many names and numbers, the line stands for no call
+unread : (word : List ℕ) (i j : ℕ) → list_all (λ byte. not (byte == 32)) word ≡ true → bytes_eq word (codes "rw") ≡ false → ◌≡◌ {A = ℕ × ℕ} (counts_after word) (i, j) → (rest : List ℕ)
+    → ((names : List (List ℕ)) (numbers : List ℕ) → length names ≡ i → length numbers ≡ j → IsTrue (are_operands names numbers) → words_of rest ≢ operands names numbers)
+    → (call : Call) → IsLine (word ++ 32 ∷ rest) call → ⊥
+unread word i j one other counts rest none call is =
+    let cut = first_and_others word rest call one is in
+    let same = call_counts call (subst (λ (w : List ℕ). bytes_eq w (codes "rw") ≡ false) cut.0 other) ∙ sym (ap counts_after cut.0) ∙ counts in
+    none (parts call).names (parts call).numbers (ap (λ (p : ℕ × ℕ). p.0) same) (ap (λ (p : ℕ × ℕ). p.1) same) (and_parts _ _ is.0).0 cut.1
+
+-- so it is with each form
+module _ (rest : List ℕ) where
+  pub no_one_name : (form : OneName) → ReadsOperands (λ (read : List ℕ). read ∷ []) (λ read. []) (words_of rest) None → (call : Call) → IsLine (word_of (forms.OneName form) ++ 32 ∷ rest) call → ⊥
+  no_one_name form none = by_form form
+    where
+      only : (names : List (List ℕ)) (numbers : List ℕ) → length names ≡ 1 → length numbers ≡ 0 → IsTrue (are_operands names numbers) → words_of rest ≢ operands names numbers
+      only (name ∷ []) [] size count are = none name are
+      only names numbers size count are = absurd (omega arith)
+      by_form : (form : OneName) (call : Call) → IsLine (word_of (forms.OneName form) ++ 32 ∷ rest) call → ⊥
+      by_form of_one_name.Mutex = unread (codes "mutex") 1 0 refl refl refl rest only
+      by_form form = unread (word_of (forms.OneName form)) 1 0 refl refl refl rest only
+
+  pub no_name_number : (form : NameNumber) → ReadsOperands (λ (read : List ℕ × ℕ). read.0 ∷ []) (λ read. read.1 ∷ []) (words_of rest) None → (call : Call) → IsLine (word_of (forms.NameNumber form) ++ 32 ∷ rest) call → ⊥
+  no_name_number form none = by_form form
+    where
+      only : (names : List (List ℕ)) (numbers : List ℕ) → length names ≡ 1 → length numbers ≡ 1 → IsTrue (are_operands names numbers) → words_of rest ≢ operands names numbers
+      only (name ∷ []) (n ∷ []) size count are = none (name, n) are
+      only names numbers size count are = absurd (omega arith)
+      by_form : (form : NameNumber) (call : Call) → IsLine (word_of (forms.NameNumber form) ++ 32 ∷ rest) call → ⊥
+      by_form of_name_number.Sem = unread (codes "sem") 1 1 refl refl refl rest only
+      by_form form = unread (word_of (forms.NameNumber form)) 1 1 refl refl refl rest only
+
+  pub no_two_names : (form : TwoNames) → ReadsOperands (λ (read : List ℕ × List ℕ). read.0 ∷ read.1 ∷ []) (λ read. []) (words_of rest) None → (call : Call) → IsLine (word_of (forms.TwoNames form) ++ 32 ∷ rest) call → ⊥
+  no_two_names form none = by_form form
+    where
+      only : (names : List (List ℕ)) (numbers : List ℕ) → length names ≡ 2 → length numbers ≡ 0 → IsTrue (are_operands names numbers) → words_of rest ≢ operands names numbers
+      only (first ∷ second ∷ []) [] size count are = none (first, second) are
+      only names numbers size count are = absurd (omega arith)
+      by_form : (form : TwoNames) (call : Call) → IsLine (word_of (forms.TwoNames form) ++ 32 ∷ rest) call → ⊥
+      by_form of_two_names.TryLock = unread (codes "trylock") 2 0 refl refl refl rest only
+      by_form form = unread (word_of (forms.TwoNames form)) 2 0 refl refl refl rest only
+
+  pub no_two_names_number : (form : TwoNamesNumber) → ReadsOperands (λ (read : List ℕ × List ℕ × ℕ). read.0 ∷ read.1 ∷ []) (λ read. read.2 ∷ []) (words_of rest) None → (call : Call) → IsLine (word_of (forms.TwoNamesNumber form) ++ 32 ∷ rest) call → ⊥
+  no_two_names_number form none = by_form form
+    where
+      only : (names : List (List ℕ)) (numbers : List ℕ) → length names ≡ 2 → length numbers ≡ 1 → IsTrue (are_operands names numbers) → words_of rest ≢ operands names numbers
+      only (first ∷ second ∷ []) (n ∷ []) size count are = none (first, second, n) are
+      only names numbers size count are = absurd (omega arith)
+      by_form : (form : TwoNamesNumber) (call : Call) → IsLine (word_of (forms.TwoNamesNumber form) ++ 32 ∷ rest) call → ⊥
+      by_form of_two_names_number.Lock = unread (codes "lock") 2 1 refl refl refl rest only
+      by_form form = unread (word_of (forms.TwoNamesNumber form)) 2 1 refl refl refl rest only
+
+  pub no_ask : ReadsOperands (λ (read : List ℕ × List ℕ × ℕ × ℕ). read.0 ∷ read.1 ∷ []) (λ read. read.2 ∷ read.3 ∷ []) (words_of rest) None → (call : Call) → IsLine (codes "ask" ++ 32 ∷ rest) call → ⊥
+  no_ask none = unread (codes "ask") 2 2 refl refl refl rest only
+    where
+      only : (names : List (List ℕ)) (numbers : List ℕ) → length names ≡ 2 → length numbers ≡ 2 → IsTrue (are_operands names numbers) → words_of rest ≢ operands names numbers
+      only (made ∷ of ∷ []) (n ∷ waker ∷ []) size count are = none (made, of, n, waker) are
+      only names numbers size count are = absurd (omega arith)
+
+-- and with `rw`, where a number may follow the name
+rw_line : (rest : List ℕ) (call : Call) → IsLine (codes "rw" ++ 32 ∷ rest) call
+    → (bytes_eq (codes "rw") (parts call).form ≡ true) × IsTrue (are_operands (parts call).names (parts call).numbers) × (words_of rest ≡ operands (parts call).names (parts call).numbers)
+rw_line rest call is =
+    let cut = first_and_others (codes "rw") rest call refl is in
+    (ap (bytes_eq (codes "rw")) (sym cut.0), (and_parts _ _ is.0).0, cut.1)
+
+pub no_rw : (rest : List ℕ) → ReadsOperands (λ (read : List ℕ × Option ℕ). read.0 ∷ []) (λ read. option_to_list read.1) (words_of rest) None → (call : Call) → IsLine (codes "rw" ++ 32 ∷ rest) call → ⊥
+no_rw rest none (calls.Rw made None) is = let read = rw_line rest (calls.Rw made None) is in none (made, None) read.1 read.2
+no_rw rest none (calls.Rw made (Some n)) is = let read = rw_line rest (calls.Rw made (Some n)) is in none (made, Some n) read.1 read.2
+no_rw rest none call is = absurd (false≢true (rw_line rest call is).0)
+
+pub no_rw_for_none : (rest made : List ℕ) → words_of rest ≡ operands (made ∷ []) (0 ∷ []) → (call : Call) → IsLine (codes "rw" ++ 32 ∷ rest) call → ⊥
+no_rw_for_none rest made zero (calls.Rw other None) is = let read = rw_line rest (calls.Rw other None) is in cc
+no_rw_for_none rest made zero (calls.Rw other (Some n)) is =
+    let read = rw_line rest (calls.Rw other (Some n)) is in
+    let same : decimal n ≡ decimal 0 = cc in
+    let none : n ≡ 0 = decimal_injective n 0 (ltb-true _ _ (and_parts _ _ (and_parts _ _ read.1).1).0) (lit< tt) same in
+    absurd (omega (arith, none, ltb-true 0 n (and_parts _ _ is.0).1))
+no_rw_for_none rest made zero call is = absurd (false≢true (rw_line rest call is).0)

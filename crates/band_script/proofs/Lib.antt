@@ -1,0 +1,6 @@
+pub mod Decoding
+pub mod Fronts
+pub mod GrammarLemmas
+pub mod NameLemmas
+pub mod NumberLemmas
+pub mod WordLemmas

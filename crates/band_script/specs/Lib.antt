@@ -1,0 +1,5 @@
+pub mod Call
+pub mod Grammar
+pub mod Inner
+pub mod Name
+pub mod Number
