@@ -14,7 +14,7 @@ use Rattle.band_script.specs.Call.{IsCall, is_call, parts, spelling}
 use Rattle.band_script.specs.Grammar.{IsLine, call_of, is_line, readings, words_of}
 use Rattle.band_script.specs.Inner.Reading.{Decodes}
 use Rattle.band_script.specs.Number.{is_number}
-use Rattle.band_script.proofs.GrammarLemmas.{line_words}
+use Rattle.band_script.proofs.GrammarLemmas.{line_words, operands_are}
 use Rattle.band_script.proofs.NumberLemmas.{value_of_number}
 
 -- what is found passes the test
@@ -39,33 +39,31 @@ chosen call first others same is =
 value : (n : ℕ) (others : Bool) → (is_number n && others) ≡ true → digits_value 10 (decimal n) ≡ n
 value n others are = value_of_number n (and_parts _ _ are).0
 
-numbers_are : (call : Call) → IsCall call → list_all is_number (parts call).numbers ≡ true
-numbers_are call is = (and_parts _ _ (and_parts _ _ is).0).1
-
 own_reading : (call : Call) → IsCall call → find (is_line (join_with_byte 32 (spelling call))) (readings (spelling call)) ≡ Some call
-own_reading (Sem made n) is = chosen (Sem made n) _ _ (ap (Sem made) (value n _ (numbers_are (Sem made n) is))) is
-own_reading (Poll name waker) is = chosen (Poll name waker) _ _ (ap (Poll name) (value waker _ (numbers_are (Poll name waker) is))) is
-own_reading (Release of n) is = chosen (Release of n) _ _ (ap (Release of) (value n _ (numbers_are (Release of n) is))) is
-own_reading (Reduce of n) is = chosen (Reduce of n) _ _ (ap (Reduce of) (value n _ (numbers_are (Reduce of n) is))) is
-own_reading (Drain of n) is = chosen (Drain of n) _ _ (ap (Drain of) (value n _ (numbers_are (Drain of n) is))) is
-own_reading (Lock made of waker) is = chosen (Lock made of waker) _ _ (ap (Lock made of) (value waker _ (numbers_are (Lock made of waker) is))) is
-own_reading (Read made of waker) is = chosen (Read made of waker) _ _ (ap (Read made of) (value waker _ (numbers_are (Read made of waker) is))) is
-own_reading (Write made of waker) is = chosen (Write made of waker) _ _ (ap (Write made of) (value waker _ (numbers_are (Write made of waker) is))) is
-own_reading (Try made of n) is = chosen (Try made of n) _ _ (ap (Try made of) (value n _ (numbers_are (Try made of n) is))) is
-own_reading (Split name made n) is = chosen (Split name made n) _ _ (ap (Split name made) (value n _ (numbers_are (Split name made n) is))) is
+own_reading (Sem made n) is = chosen (Sem made n) _ _ (ap (Sem made) (value n _ (operands_are (Sem made n) is).1)) is
+own_reading (Poll name waker) is = chosen (Poll name waker) _ _ (ap (Poll name) (value waker _ (operands_are (Poll name waker) is).1)) is
+own_reading (Release of n) is = chosen (Release of n) _ _ (ap (Release of) (value n _ (operands_are (Release of n) is).1)) is
+own_reading (Reduce of n) is = chosen (Reduce of n) _ _ (ap (Reduce of) (value n _ (operands_are (Reduce of n) is).1)) is
+own_reading (Drain of n) is = chosen (Drain of n) _ _ (ap (Drain of) (value n _ (operands_are (Drain of n) is).1)) is
+own_reading (Lock made of waker) is = chosen (Lock made of waker) _ _ (ap (Lock made of) (value waker _ (operands_are (Lock made of waker) is).1)) is
+own_reading (Read made of waker) is = chosen (Read made of waker) _ _ (ap (Read made of) (value waker _ (operands_are (Read made of waker) is).1)) is
+own_reading (Write made of waker) is = chosen (Write made of waker) _ _ (ap (Write made of) (value waker _ (operands_are (Write made of waker) is).1)) is
+own_reading (Try made of n) is = chosen (Try made of n) _ _ (ap (Try made of) (value n _ (operands_are (Try made of n) is).1)) is
+own_reading (Split name made n) is = chosen (Split name made n) _ _ (ap (Split name made) (value n _ (operands_are (Split name made n) is).1)) is
 own_reading (Rw made None) is = chosen (Rw made None) _ _ refl is
-own_reading (Rw made (Some n)) is = chosen (Rw made (Some n)) _ _ (ap (λ m. Rw made (Some m)) (value n _ (numbers_are (Rw made (Some n)) is))) is
+own_reading (Rw made (Some n)) is = chosen (Rw made (Some n)) _ _ (ap (λ m. Rw made (Some m)) (value n _ (operands_are (Rw made (Some n)) is).1)) is
 own_reading (Ask made of n waker) is =
-    let are = numbers_are (Ask made of n waker) is in
+    let are = (operands_are (Ask made of n waker) is).1 in
     chosen (Ask made of n waker) _ _ (ap₂ (Ask made of) (value n _ are) (value waker _ (and_parts _ _ are).1)) is
 own_reading call is = chosen call _ _ refl is
 
 -- the decoder reads a line as a call just where it stands for the call
 pub call_of_line : (line : List ℕ) (call : Call) → (call_of line ≡ Some call) ↔ IsLine line call
 unfolding call_of
-call_of_line line call =
-    (found_is_line line (readings (words_of line)) call,
-     λ is. ap (λ words. find (is_line line) (readings words)) (line_words line call is) ∙ ap (λ l. find (is_line l) (readings (spelling call))) is.1 ∙ own_reading call is.0)
+call_of_line line call = (
+  found_is_line line (readings (words_of line)) call,
+  λ is. ap (λ words. find (is_line line) (readings words)) (line_words line call is) ∙ ap (λ l. find (is_line l) (readings (spelling call))) is.1 ∙ own_reading call is.0,
+)
 
 pub one_call_of_line : (line : List ℕ) (a b : Call) → IsLine line a → IsLine line b → a ≡ b
 one_call_of_line line a b a_is b_is = same_Some a b (sym ((call_of_line line a).1 a_is) ∙ (call_of_line line b).1 b_is)
@@ -78,3 +76,6 @@ decoded line None none = by_call (call_of line) refl
     by_call None is = refl
     by_call (Some call) is = absurd (none call ((call_of_line line call).0 is))
 decoded line (Some call) is = sym ((call_of_line line call).1 is)
+
+pub decoded_as : (line begun : List ℕ) (read : Option Call) → line ≡ begun → Decodes begun read → read ≡ call_of line
+decoded_as line begun read same is = decoded begun read is ∙ ap call_of (sym same)

@@ -1,6 +1,6 @@
 -- A line, the words of its call, and the form that its first word names.
-use Rattle.std.proofs.Common.{◌≡◌, ℕ, ◌+◌, ◌*◌, ◌≤◌, Bool, true, false, cond, List, [], ◌∷◌, ◌++◌, length, map, Some, None, refl, sym, ap, ap₂, ◌∙◌, subst, length-append, lit≤, lit<, arith}
-use Rattle.std.specs.Prelude.{◌==◌, ◌≢◌, codes, not, IsTrue, Option, if◌then◌else◌}
+use Rattle.std.proofs.Common.{◌≡◌, ℕ, ◌+◌, ◌*◌, ◌^◌, ◌≤◌, Bool, true, false, cond, List, [], ◌∷◌, ◌++◌, length, map, Some, None, refl, sym, ap, ap₂, ◌∙◌, subst, length-append, lit≤, lit<, arith}
+use Rattle.std.specs.Prelude.{◌==◌, ◌≢◌, codes, not, IsTrue, nat_lt, Option, if◌then◌else◌}
 use Rattle.std.specs.Fmt.{decimal}
 use Rattle.std.specs.Option.{option_to_list}
 use Rattle.std.specs.List.{All, list_all, list_any, join_with_byte}
@@ -46,11 +46,20 @@ call_word : (call : Call) → list_all (λ byte. not (byte == 32)) (parts call).
 call_word (calls.Rw made (Some n)) = refl
 call_word call = refl
 
+-- a call begins with it and a space
+pub begins : (call : Call) → join_with_byte 32 (spelling call) ≡ (parts call).form ++ 32 ∷ join_with_byte 32 (operands (parts call).names (parts call).numbers)
+begins (calls.Rw made (Some n)) = refl
+begins call = refl
+
+-- what a call's names and numbers are
+pub operands_are : (call : Call) → IsCall call → (list_all is_name (parts call).names ≡ true) × (list_all is_number (parts call).numbers ≡ true)
+operands_are call is = and_parts _ _ (and_parts _ _ is).0
+
 -- the words of a line are those of its call
 pub line_words : (line : List ℕ) (call : Call) → IsLine line call → words_of line ≡ spelling call
 line_words line call is =
-    let operands_are = and_parts _ _ (and_parts _ _ is.0).0 in
-    ap words_of is.1 ∙ cut_again (parts call).form (parts call).names (parts call).numbers (no_space _ refl _ (call_word call)) operands_are.0 operands_are.1
+    let are = operands_are call is.0 in
+    ap words_of is.1 ∙ cut_again (parts call).form (parts call).names (parts call).numbers (no_space _ refl _ (call_word call)) are.0 are.1
 
 -- a line whose first word is that of a form, with the other words of a call of the form, stands for the call
 pub written_line : (line : List ℕ) (form : Form) (rest : List ℕ) (names : List (List ℕ)) (numbers : List ℕ) (call : Call) → line ≡ word_of form ++ 32 ∷ rest → IsWritten call form names numbers
@@ -102,6 +111,7 @@ module _ (rest : List ℕ) where
       only : (names : List (List ℕ)) (numbers : List ℕ) → length names ≡ 1 → length numbers ≡ 0 → IsTrue (are_operands names numbers) → words_of rest ≢ operands names numbers
       only (name ∷ []) [] size count are = none name are
       only names numbers size count are = absurd (omega arith)
+
       by_form : (form : OneName) (call : Call) → IsLine (word_of (forms.OneName form) ++ 32 ∷ rest) call → ⊥
       by_form of_one_name.Mutex = unread (codes "mutex") 1 0 refl refl refl rest only
       by_form form = unread (word_of (forms.OneName form)) 1 0 refl refl refl rest only
@@ -112,6 +122,7 @@ module _ (rest : List ℕ) where
       only : (names : List (List ℕ)) (numbers : List ℕ) → length names ≡ 1 → length numbers ≡ 1 → IsTrue (are_operands names numbers) → words_of rest ≢ operands names numbers
       only (name ∷ []) (n ∷ []) size count are = none (name, n) are
       only names numbers size count are = absurd (omega arith)
+
       by_form : (form : NameNumber) (call : Call) → IsLine (word_of (forms.NameNumber form) ++ 32 ∷ rest) call → ⊥
       by_form of_name_number.Sem = unread (codes "sem") 1 1 refl refl refl rest only
       by_form form = unread (word_of (forms.NameNumber form)) 1 1 refl refl refl rest only
@@ -122,6 +133,7 @@ module _ (rest : List ℕ) where
       only : (names : List (List ℕ)) (numbers : List ℕ) → length names ≡ 2 → length numbers ≡ 0 → IsTrue (are_operands names numbers) → words_of rest ≢ operands names numbers
       only (first ∷ second ∷ []) [] size count are = none (first, second) are
       only names numbers size count are = absurd (omega arith)
+
       by_form : (form : TwoNames) (call : Call) → IsLine (word_of (forms.TwoNames form) ++ 32 ∷ rest) call → ⊥
       by_form of_two_names.TryLock = unread (codes "trylock") 2 0 refl refl refl rest only
       by_form form = unread (word_of (forms.TwoNames form)) 2 0 refl refl refl rest only
@@ -132,6 +144,7 @@ module _ (rest : List ℕ) where
       only : (names : List (List ℕ)) (numbers : List ℕ) → length names ≡ 2 → length numbers ≡ 1 → IsTrue (are_operands names numbers) → words_of rest ≢ operands names numbers
       only (first ∷ second ∷ []) (n ∷ []) size count are = none (first, second, n) are
       only names numbers size count are = absurd (omega arith)
+
       by_form : (form : TwoNamesNumber) (call : Call) → IsLine (word_of (forms.TwoNamesNumber form) ++ 32 ∷ rest) call → ⊥
       by_form of_two_names_number.Lock = unread (codes "lock") 2 1 refl refl refl rest only
       by_form form = unread (word_of (forms.TwoNamesNumber form)) 2 1 refl refl refl rest only
@@ -160,6 +173,7 @@ no_rw_for_none rest made zero (calls.Rw other None) is = let read = rw_line rest
 no_rw_for_none rest made zero (calls.Rw other (Some n)) is =
     let read = rw_line rest (calls.Rw other (Some n)) is in
     let same : decimal n ≡ decimal 0 = cc in
-    let none : n ≡ 0 = decimal_injective n 0 (ltb-true _ _ (and_parts _ _ (and_parts _ _ read.1).1).0) (lit< tt) same in
-    absurd (omega (arith, none, ltb-true 0 n (and_parts _ _ is.0).1))
+    let fits = ltb-true n (2 ^ 64) (and_parts (is_number n) true (operands_are (calls.Rw other (Some n)) is.0).1).0 in
+    let some = ltb-true 0 n (and_parts (are_operands (other ∷ []) (n ∷ [])) (nat_lt 0 n) is.0).1 in
+    absurd (omega (arith, decimal_injective n 0 fits (lit< tt) same, some))
 no_rw_for_none rest made zero call is = absurd (false≢true (rw_line rest call is).0)

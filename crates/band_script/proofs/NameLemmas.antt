@@ -139,3 +139,6 @@ kept_name text kept n is within some same =
 
 pub name_has_no_space : (name : List ℕ) → is_name name ≡ true → All (λ byte. (byte == 32) ≡ false) name
 name_has_no_space name is = no_space is_name_byte refl name (and_parts _ _ is).1
+
+pub name_length : (name : List ℕ) → is_name name ≡ true → length name ≤ 32
+name_length name is = leb-true (length name) 32 (and_parts _ _ (and_parts _ _ is).0).1

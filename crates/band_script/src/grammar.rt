@@ -1,12 +1,13 @@
 //! The reading of a line, and laws of what a line stands for.
-ghost use Rattle.std.specs.Prelude.{◌≡◌, ◌↔◌, ◌≤◌, ◌∷◌, List, ℕ, Some, length, IfSome, IfNone};
+ghost use Rattle.std.specs.Prelude.{◌≡◌, ◌↔◌, ◌≤◌, ◌∷◌, ◌++◌, List, ℕ, Some, codes, length, IfSome, IfNone};
 ghost use Rattle.band_script.specs.declared.call.Call.{Call as TheCall};
 ghost use Rattle.band_script.specs.Call.{ForReaders};
 ghost use Rattle.band_script.specs.Grammar.{IsLine, call_of};
 ghost use Rattle.band_script.specs.Inner.Reading.{Decodes};
+ghost use Rattle.band_script.specs.Inner.Forms.{word_of};
 
 use crate::Call;
-use crate::form::{Form, split_form};
+use crate::form::{Form, NameNumber, OneName, TwoNames, TwoNamesNumber, split_form};
 use crate::operands::{
     name_and_option, name_number, one_name, two_names, two_names_number, two_names_two_numbers,
 };
@@ -19,47 +20,70 @@ pub fn parse_line(line: &[u8]) -> Option<Call>
     // So a player can run it.
     ensures readers { IfSome result (λ call. ForReaders call) }
 {
-    read_line(line)
-}
-
-fn read_line(line: &[u8]) -> Option<Call>
-    ensures { Decodes line.now result }
-{
     let (form, rest) = split_form(line)?;
     match form {
-        Form::OneName(form) => {
-            let name = one_name(rest)?;
-            Some(form.call(name))
-        }
-        Form::NameNumber(form) => {
-            let (name, n) = name_number(rest)?;
-            Some(form.call(name, n))
-        }
-        Form::TwoNames(form) => {
-            let (first, second) = two_names(rest)?;
-            Some(form.call(first, second))
-        }
-        Form::TwoNamesNumber(form) => {
-            let (first, second, n) = two_names_number(rest)?;
-            Some(form.call(first, second, n))
-        }
+        Form::OneName(form) => read_one_name(form, rest),
+        Form::NameNumber(form) => read_name_number(form, rest),
+        Form::TwoNames(form) => read_two_names(form, rest),
+        Form::TwoNamesNumber(form) => read_two_names_number(form, rest),
         Form::Rw => read_rw(rest),
-        Form::Ask => {
-            let (made, of, n, waker) = two_names_two_numbers(rest)?;
-            Some(Call::Ask { made, of, n, waker })
-        }
+        Form::Ask => read_ask(rest),
     }
 }
 
-/// The rest of an `rw` line. Without a number of readers it has none, and with one that isn't 0.
-fn read_rw(rest: &[u8]) -> Option<Call>
-    ensures { Decodes (114 ∷ 119 ∷ 32 ∷ rest.now) result }
+// Each of these is a function of its own when it runs, too: where they all stand in one, names are moved about piece by piece.
+
+#[inline(never)]
+fn read_one_name(form: OneName, rest: &[u8]) -> Option<Call>
+    ensures { Decodes (word_of (Form.OneName form) ++ 32 ∷ rest.now) result }
 {
-    match name_and_option(rest)? {
-        (made, None) => Some(Call::Rw { made, n: None }),
-        (_, Some(0)) => None,
-        (made, n) => Some(Call::Rw { made, n }),
+    let name = one_name(rest)?;
+    Some(form.call(name))
+}
+
+#[inline(never)]
+fn read_name_number(form: NameNumber, rest: &[u8]) -> Option<Call>
+    ensures { Decodes (word_of (Form.NameNumber form) ++ 32 ∷ rest.now) result }
+{
+    let (name, n) = name_number(rest)?;
+    Some(form.call(name, n))
+}
+
+#[inline(never)]
+fn read_two_names(form: TwoNames, rest: &[u8]) -> Option<Call>
+    ensures { Decodes (word_of (Form.TwoNames form) ++ 32 ∷ rest.now) result }
+{
+    let (first, second) = two_names(rest)?;
+    Some(form.call(first, second))
+}
+
+#[inline(never)]
+fn read_two_names_number(form: TwoNamesNumber, rest: &[u8]) -> Option<Call>
+    ensures { Decodes (word_of (Form.TwoNamesNumber form) ++ 32 ∷ rest.now) result }
+{
+    let (first, second, n) = two_names_number(rest)?;
+    Some(form.call(first, second, n))
+}
+
+/// Without a number of readers there is none, and one that is 0 makes no call.
+#[inline(never)]
+fn read_rw(rest: &[u8]) -> Option<Call>
+    ensures { Decodes (codes "rw" ++ 32 ∷ rest.now) result }
+{
+    let (made, n) = name_and_option(rest)?;
+    match n {
+        None => Some(Call::Rw { made, n: None }),
+        Some(0) => None,
+        Some(n) => Some(Call::Rw { made, n: Some(n) }),
     }
+}
+
+#[inline(never)]
+fn read_ask(rest: &[u8]) -> Option<Call>
+    ensures { Decodes (codes "ask" ++ 32 ∷ rest.now) result }
+{
+    let (made, of, n, waker) = two_names_two_numbers(rest)?;
+    Some(Call::Ask { made, of, n, waker })
 }
 
 /// A line is read as a call just where it stands for the call.
