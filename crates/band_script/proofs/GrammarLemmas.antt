@@ -12,18 +12,18 @@ use Rattle.band_script.specs.declared.call.Call.{Call}
 use Rattle.band_script.specs.declared.call.Call.TheVariants as calls
 use Rattle.band_script.specs.declared.form.Form.{Form}
 use Rattle.band_script.specs.declared.form.OneName.{OneName}
-use Rattle.band_script.specs.declared.form.OneName.TheVariants as of_one_name
+use Rattle.band_script.specs.declared.form.OneName.TheVariants as one_name
 use Rattle.band_script.specs.declared.form.Form.TheVariants as forms
 use Rattle.band_script.specs.declared.form.NameNumber.{NameNumber}
-use Rattle.band_script.specs.declared.form.NameNumber.TheVariants as of_name_number
+use Rattle.band_script.specs.declared.form.NameNumber.TheVariants as name_number
 use Rattle.band_script.specs.declared.form.TwoNames.{TwoNames}
-use Rattle.band_script.specs.declared.form.TwoNames.TheVariants as of_two_names
+use Rattle.band_script.specs.declared.form.TwoNames.TheVariants as two_names
 use Rattle.band_script.specs.declared.form.TwoNamesNumber.{TwoNamesNumber}
-use Rattle.band_script.specs.declared.form.TwoNamesNumber.TheVariants as of_two_names_number
+use Rattle.band_script.specs.declared.form.TwoNamesNumber.TheVariants as two_names_number
 use Rattle.band_script.specs.Call.{Parts, are_operands, operands, parts, spelling, written, IsCall, is_call, has_readers}
 use Rattle.band_script.specs.Grammar.{words_of, IsLine}
 use Rattle.band_script.specs.Inner.Forms.{word_of, IsWritten}
-use Rattle.band_script.specs.Inner.Reading.{ReadsOperands}
+use Rattle.band_script.specs.Inner.Reading.{Decodes, ReadsNameNumber, ReadsNameOption, ReadsOneName, ReadsTwoNames, ReadsTwoNamesNumber, ReadsTwoNamesTwoNumbers}
 use Rattle.band_script.specs.Name.{is_name}
 use Rattle.band_script.specs.Number.{is_number}
 use Rattle.band_script.proofs.NameLemmas.{name_has_no_space}
@@ -89,91 +89,107 @@ counts_after word =
     else if is_among (codes "ask" ∷ []) then (2, 2)
     else (1, 1)
 
-call_counts : (call : Call) → bytes_eq (parts call).form (codes "rw") ≡ false → ◌≡◌ {A = ℕ × ℕ} (length (parts call).names, length (parts call).numbers) (counts_after (parts call).form)
+call_counts : (call : Call) → bytes_eq (parts call).form (codes "rw") ≡ false
+    → ◌≡◌ {A = ℕ × ℕ} (length (parts call).names, length (parts call).numbers) (counts_after (parts call).form)
 call_counts (calls.Rw made None) other = cc
 call_counts (calls.Rw made (Some n)) other = cc
 call_counts call other = refl
 
--- where the other words are not so many names and numbers, the line stands for no call
-unread : (word : List ℕ) (i j : ℕ) → list_all (λ byte. not (byte == 32)) word ≡ true → bytes_eq word (codes "rw") ≡ false → ◌≡◌ {A = ℕ × ℕ} (counts_after word) (i, j) → (rest : List ℕ)
-    → ((names : List (List ℕ)) (numbers : List ℕ) → length names ≡ i → length numbers ≡ j → IsTrue (are_operands names numbers) → words_of rest ≢ operands names numbers)
-    → (call : Call) → IsLine (word ++ 32 ∷ rest) call → ⊥
-unread word i j one other counts rest none call is =
-    let cut = first_and_others word rest call one is in
-    let same = call_counts call (subst (λ (w : List ℕ). bytes_eq w (codes "rw") ≡ false) cut.0 other) ∙ sym (ap counts_after cut.0) ∙ counts in
+abbrev is_rw : Form → Bool
+is_rw forms.Rw = true
+is_rw form = false
+
+abbrev counts_of : Form → ℕ × ℕ
+counts_of (forms.OneName form) = (1, 0)
+counts_of (forms.TwoNames form) = (2, 0)
+counts_of (forms.TwoNamesNumber form) = (2, 1)
+counts_of forms.Ask = (2, 2)
+counts_of form = (1, 1)
+
+-- what the proofs need of the word of a form
+record IsFormWord (form : Form) : Type 0 where
+  has_no_space : list_all (λ byte. not (byte == 32)) (word_of form) ≡ true
+  tells_rw : bytes_eq (word_of form) (codes "rw") ≡ is_rw form
+  tells_counts : ◌≡◌ {A = ℕ × ℕ} (counts_after (word_of form)) (counts_of form)
+
+form_word : (form : Form) → IsFormWord form
+form_word (forms.OneName one_name.Mutex) = record { has_no_space = refl; tells_rw = refl; tells_counts = refl }
+form_word (forms.NameNumber name_number.Sem) = record { has_no_space = refl; tells_rw = refl; tells_counts = refl }
+form_word (forms.TwoNames two_names.Merge) = record { has_no_space = refl; tells_rw = refl; tells_counts = refl }
+form_word (forms.TwoNamesNumber two_names_number.Lock) = record { has_no_space = refl; tells_rw = refl; tells_counts = refl }
+form_word form = record { has_no_space = refl; tells_rw = refl; tells_counts = refl }
+
+-- the words are not so many names and numbers
+abbrev AreNot : ℕ × ℕ → List (List ℕ) → Type 0
+AreNot counts words =
+    (names : List (List ℕ)) (numbers : List ℕ) → length names ≡ counts.0 → length numbers ≡ counts.1 → IsTrue (are_operands names numbers)
+    → words ≢ operands names numbers
+
+-- so a line of the form with them stands for no call
+no_call : (form : Form) (rest : List ℕ) → is_rw form ≡ false → AreNot (counts_of form) (words_of rest) → Decodes (word_of form ++ 32 ∷ rest) None
+no_call form rest other none call is =
+    let word = form_word form in
+    let cut = first_and_others (word_of form) rest call word.has_no_space is in
+    let no_rw = subst (λ (w : List ℕ). bytes_eq w (codes "rw") ≡ false) cut.0 (word.tells_rw ∙ other) in
+    let same = call_counts call no_rw ∙ sym (ap counts_after cut.0) ∙ word.tells_counts in
     none (parts call).names (parts call).numbers (ap (λ (p : ℕ × ℕ). p.0) same) (ap (λ (p : ℕ × ℕ). p.1) same) (and_parts _ _ is.0).0 cut.1
 
--- so it is with each form
 module _ (rest : List ℕ) where
-  pub no_one_name : (form : OneName) → ReadsOperands (λ (read : List ℕ). read ∷ []) (λ read. []) (words_of rest) None → (call : Call) → IsLine (word_of (forms.OneName form) ++ 32 ∷ rest) call → ⊥
-  no_one_name form none = by_form form
+  pub no_one_name : (form : OneName) → ReadsOneName (words_of rest) None → Decodes (word_of (forms.OneName form) ++ 32 ∷ rest) None
+  no_one_name form none = no_call (forms.OneName form) rest refl are_not
     where
-      only : (names : List (List ℕ)) (numbers : List ℕ) → length names ≡ 1 → length numbers ≡ 0 → IsTrue (are_operands names numbers) → words_of rest ≢ operands names numbers
-      only (name ∷ []) [] size count are = none name are
-      only names numbers size count are = absurd (omega arith)
+      are_not : AreNot (1, 0) (words_of rest)
+      are_not (name ∷ []) [] size count are = none name are
+      are_not names numbers size count are = absurd (omega arith)
 
-      by_form : (form : OneName) (call : Call) → IsLine (word_of (forms.OneName form) ++ 32 ∷ rest) call → ⊥
-      by_form of_one_name.Mutex = unread (codes "mutex") 1 0 refl refl refl rest only
-      by_form form = unread (word_of (forms.OneName form)) 1 0 refl refl refl rest only
-
-  pub no_name_number : (form : NameNumber) → ReadsOperands (λ (read : List ℕ × ℕ). read.0 ∷ []) (λ read. read.1 ∷ []) (words_of rest) None → (call : Call) → IsLine (word_of (forms.NameNumber form) ++ 32 ∷ rest) call → ⊥
-  no_name_number form none = by_form form
+  pub no_name_number : (form : NameNumber) → ReadsNameNumber (words_of rest) None → Decodes (word_of (forms.NameNumber form) ++ 32 ∷ rest) None
+  no_name_number form none = no_call (forms.NameNumber form) rest refl are_not
     where
-      only : (names : List (List ℕ)) (numbers : List ℕ) → length names ≡ 1 → length numbers ≡ 1 → IsTrue (are_operands names numbers) → words_of rest ≢ operands names numbers
-      only (name ∷ []) (n ∷ []) size count are = none (name, n) are
-      only names numbers size count are = absurd (omega arith)
+      are_not : AreNot (1, 1) (words_of rest)
+      are_not (name ∷ []) (n ∷ []) size count are = none (name, n) are
+      are_not names numbers size count are = absurd (omega arith)
 
-      by_form : (form : NameNumber) (call : Call) → IsLine (word_of (forms.NameNumber form) ++ 32 ∷ rest) call → ⊥
-      by_form of_name_number.Sem = unread (codes "sem") 1 1 refl refl refl rest only
-      by_form form = unread (word_of (forms.NameNumber form)) 1 1 refl refl refl rest only
-
-  pub no_two_names : (form : TwoNames) → ReadsOperands (λ (read : List ℕ × List ℕ). read.0 ∷ read.1 ∷ []) (λ read. []) (words_of rest) None → (call : Call) → IsLine (word_of (forms.TwoNames form) ++ 32 ∷ rest) call → ⊥
-  no_two_names form none = by_form form
+  pub no_two_names : (form : TwoNames) → ReadsTwoNames (words_of rest) None → Decodes (word_of (forms.TwoNames form) ++ 32 ∷ rest) None
+  no_two_names form none = no_call (forms.TwoNames form) rest refl are_not
     where
-      only : (names : List (List ℕ)) (numbers : List ℕ) → length names ≡ 2 → length numbers ≡ 0 → IsTrue (are_operands names numbers) → words_of rest ≢ operands names numbers
-      only (first ∷ second ∷ []) [] size count are = none (first, second) are
-      only names numbers size count are = absurd (omega arith)
+      are_not : AreNot (2, 0) (words_of rest)
+      are_not (first ∷ second ∷ []) [] size count are = none (first, second) are
+      are_not names numbers size count are = absurd (omega arith)
 
-      by_form : (form : TwoNames) (call : Call) → IsLine (word_of (forms.TwoNames form) ++ 32 ∷ rest) call → ⊥
-      by_form of_two_names.TryLock = unread (codes "trylock") 2 0 refl refl refl rest only
-      by_form form = unread (word_of (forms.TwoNames form)) 2 0 refl refl refl rest only
-
-  pub no_two_names_number : (form : TwoNamesNumber) → ReadsOperands (λ (read : List ℕ × List ℕ × ℕ). read.0 ∷ read.1 ∷ []) (λ read. read.2 ∷ []) (words_of rest) None → (call : Call) → IsLine (word_of (forms.TwoNamesNumber form) ++ 32 ∷ rest) call → ⊥
-  no_two_names_number form none = by_form form
+  pub no_two_names_number : (form : TwoNamesNumber) → ReadsTwoNamesNumber (words_of rest) None → Decodes (word_of (forms.TwoNamesNumber form) ++ 32 ∷ rest) None
+  no_two_names_number form none = no_call (forms.TwoNamesNumber form) rest refl are_not
     where
-      only : (names : List (List ℕ)) (numbers : List ℕ) → length names ≡ 2 → length numbers ≡ 1 → IsTrue (are_operands names numbers) → words_of rest ≢ operands names numbers
-      only (first ∷ second ∷ []) (n ∷ []) size count are = none (first, second, n) are
-      only names numbers size count are = absurd (omega arith)
+      are_not : AreNot (2, 1) (words_of rest)
+      are_not (first ∷ second ∷ []) (n ∷ []) size count are = none (first, second, n) are
+      are_not names numbers size count are = absurd (omega arith)
 
-      by_form : (form : TwoNamesNumber) (call : Call) → IsLine (word_of (forms.TwoNamesNumber form) ++ 32 ∷ rest) call → ⊥
-      by_form of_two_names_number.Lock = unread (codes "lock") 2 1 refl refl refl rest only
-      by_form form = unread (word_of (forms.TwoNamesNumber form)) 2 1 refl refl refl rest only
-
-  pub no_ask : ReadsOperands (λ (read : List ℕ × List ℕ × ℕ × ℕ). read.0 ∷ read.1 ∷ []) (λ read. read.2 ∷ read.3 ∷ []) (words_of rest) None → (call : Call) → IsLine (codes "ask" ++ 32 ∷ rest) call → ⊥
-  no_ask none = unread (codes "ask") 2 2 refl refl refl rest only
+  pub no_ask : ReadsTwoNamesTwoNumbers (words_of rest) None → Decodes (word_of forms.Ask ++ 32 ∷ rest) None
+  no_ask none = no_call forms.Ask rest refl are_not
     where
-      only : (names : List (List ℕ)) (numbers : List ℕ) → length names ≡ 2 → length numbers ≡ 2 → IsTrue (are_operands names numbers) → words_of rest ≢ operands names numbers
-      only (made ∷ of ∷ []) (n ∷ waker ∷ []) size count are = none (made, of, n, waker) are
-      only names numbers size count are = absurd (omega arith)
+      are_not : AreNot (2, 2) (words_of rest)
+      are_not (made ∷ of ∷ []) (n ∷ waker ∷ []) size count are = none (made, of, n, waker) are
+      are_not names numbers size count are = absurd (omega arith)
 
--- and with `rw`, where a number may follow the name
-rw_line : (rest : List ℕ) (call : Call) → IsLine (codes "rw" ++ 32 ∷ rest) call
-    → (bytes_eq (codes "rw") (parts call).form ≡ true) × IsTrue (are_operands (parts call).names (parts call).numbers) × (words_of rest ≡ operands (parts call).names (parts call).numbers)
-rw_line rest call is =
-    let cut = first_and_others (codes "rw") rest call refl is in
-    (ap (bytes_eq (codes "rw")) (sym cut.0), (and_parts _ _ is.0).0, cut.1)
+  -- what follows `rw` in a line that stands for a call
+  rw_line : (call : Call) → IsLine (word_of forms.Rw ++ 32 ∷ rest) call
+      → (bytes_eq (codes "rw") (parts call).form ≡ true) × IsTrue (are_operands (parts call).names (parts call).numbers)
+      × (words_of rest ≡ operands (parts call).names (parts call).numbers)
+  rw_line call is =
+      let cut = first_and_others (codes "rw") rest call refl is in
+      (ap (bytes_eq (codes "rw")) (sym cut.0), (and_parts _ _ is.0).0, cut.1)
 
-pub no_rw : (rest : List ℕ) → ReadsOperands (λ (read : List ℕ × Option ℕ). read.0 ∷ []) (λ read. option_to_list read.1) (words_of rest) None → (call : Call) → IsLine (codes "rw" ++ 32 ∷ rest) call → ⊥
-no_rw rest none (calls.Rw made None) is = let read = rw_line rest (calls.Rw made None) is in none (made, None) read.1 read.2
-no_rw rest none (calls.Rw made (Some n)) is = let read = rw_line rest (calls.Rw made (Some n)) is in none (made, Some n) read.1 read.2
-no_rw rest none call is = absurd (false≢true (rw_line rest call is).0)
+  pub no_rw : ReadsNameOption (words_of rest) None → Decodes (word_of forms.Rw ++ 32 ∷ rest) None
+  no_rw none (calls.Rw made None) is = let read = rw_line (calls.Rw made None) is in none (made, None) read.1 read.2
+  no_rw none (calls.Rw made (Some n)) is = let read = rw_line (calls.Rw made (Some n)) is in none (made, Some n) read.1 read.2
+  no_rw none call is = absurd (false≢true (rw_line call is).0)
 
-pub no_rw_for_none : (rest made : List ℕ) → words_of rest ≡ operands (made ∷ []) (0 ∷ []) → (call : Call) → IsLine (codes "rw" ++ 32 ∷ rest) call → ⊥
-no_rw_for_none rest made zero (calls.Rw other None) is = let read = rw_line rest (calls.Rw other None) is in cc
-no_rw_for_none rest made zero (calls.Rw other (Some n)) is =
-    let read = rw_line rest (calls.Rw other (Some n)) is in
-    let same : decimal n ≡ decimal 0 = cc in
-    let fits = ltb-true n (2 ^ 64) (and_parts (is_number n) true (operands_are (calls.Rw other (Some n)) is.0).1).0 in
-    let some = ltb-true 0 n (and_parts (are_operands (other ∷ []) (n ∷ [])) (nat_lt 0 n) is.0).1 in
-    absurd (omega (arith, decimal_injective n 0 fits (lit< tt) same, some))
-no_rw_for_none rest made zero call is = absurd (false≢true (rw_line rest call is).0)
+  -- no call makes a lock for 0 readers
+  pub no_rw_for_none : (made : List ℕ) → words_of rest ≡ operands (made ∷ []) (0 ∷ []) → Decodes (word_of forms.Rw ++ 32 ∷ rest) None
+  no_rw_for_none made zero (calls.Rw other None) is = let read = rw_line (calls.Rw other None) is in cc
+  no_rw_for_none made zero (calls.Rw other (Some n)) is =
+      let read = rw_line (calls.Rw other (Some n)) is in
+      let same : decimal n ≡ decimal 0 = cc in
+      let fits = ltb-true n (2 ^ 64) (and_parts (is_number n) true (operands_are (calls.Rw other (Some n)) is.0).1).0 in
+      let some = ltb-true 0 n (and_parts (are_operands (other ∷ []) (n ∷ [])) (nat_lt 0 n) is.0).1 in
+      absurd (omega (arith, decimal_injective n 0 fits (lit< tt) same, some))
+  no_rw_for_none made zero call is = absurd (false≢true (rw_line call is).0)

@@ -9,7 +9,7 @@ ghost use Rattle.band_script.specs.Inner.Forms.{word_of};
 use crate::Call;
 use crate::form::{Form, NameNumber, OneName, TwoNames, TwoNamesNumber, split_form};
 use crate::operands::{
-    name_and_option, name_number, one_name, two_names, two_names_number, two_names_two_numbers,
+    name_option, name_number, one_name, two_names, two_names_number, two_names_two_numbers,
 };
 
 /// The call that a line, given without its newline, stands for, if it stands for one.
@@ -70,7 +70,7 @@ fn read_two_names_number(form: TwoNamesNumber, rest: &[u8]) -> Option<Call>
 fn read_rw(rest: &[u8]) -> Option<Call>
     ensures { Decodes (codes "rw" ++ 32 ∷ rest.now) result }
 {
-    let (made, n) = name_and_option(rest)?;
+    let (made, n) = name_option(rest)?;
     match n {
         None => Some(Call::Rw { made, n: None }),
         Some(0) => None,

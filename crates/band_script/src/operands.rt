@@ -1,14 +1,12 @@
 //! The words after the first: names, and then numbers.
-ghost use Rattle.std.specs.Prelude.{[], ◌∷◌};
-ghost use Rattle.std.specs.Option.{option_to_list};
 ghost use Rattle.band_script.specs.Grammar.{words_of};
-ghost use Rattle.band_script.specs.Inner.Reading.{ReadsOperands, ReadsFirstName, ReadsFirstNumber, words_left};
+ghost use Rattle.band_script.specs.Inner.Reading.{ReadsOneName, ReadsNameNumber, ReadsNameOption, ReadsTwoNames, ReadsTwoNamesNumber, ReadsTwoNamesTwoNumbers};
 
 use crate::Name;
 use crate::words::Words;
 
 pub(crate) fn one_name(text: &[u8]) -> Option<Name>
-    ensures { ReadsOperands (λ name. name ∷ []) (λ name. []) (words_of text.now) result }
+    ensures { ReadsOneName (words_of text.now) result }
 {
     let mut words = Words::new(text);
     let name = words.name()?;
@@ -16,7 +14,7 @@ pub(crate) fn one_name(text: &[u8]) -> Option<Name>
 }
 
 pub(crate) fn two_names(text: &[u8]) -> Option<(Name, Name)>
-    ensures { ReadsOperands (λ read. read.0 ∷ read.1 ∷ []) (λ read. []) (words_of text.now) result }
+    ensures { ReadsTwoNames (words_of text.now) result }
 {
     let mut words = Words::new(text);
     let first = words.name()?;
@@ -25,7 +23,7 @@ pub(crate) fn two_names(text: &[u8]) -> Option<(Name, Name)>
 }
 
 pub(crate) fn name_number(text: &[u8]) -> Option<(Name, u64)>
-    ensures { ReadsOperands (λ read. read.0 ∷ []) (λ read. read.1 ∷ []) (words_of text.now) result }
+    ensures { ReadsNameNumber (words_of text.now) result }
 {
     let mut words = Words::new(text);
     let name = words.name()?;
@@ -34,7 +32,7 @@ pub(crate) fn name_number(text: &[u8]) -> Option<(Name, u64)>
 }
 
 pub(crate) fn two_names_number(text: &[u8]) -> Option<(Name, Name, u64)>
-    ensures { ReadsOperands (λ read. read.0 ∷ read.1 ∷ []) (λ read. read.2 ∷ []) (words_of text.now) result }
+    ensures { ReadsTwoNamesNumber (words_of text.now) result }
 {
     let mut words = Words::new(text);
     let first = words.name()?;
@@ -44,7 +42,7 @@ pub(crate) fn two_names_number(text: &[u8]) -> Option<(Name, Name, u64)>
 }
 
 pub(crate) fn two_names_two_numbers(text: &[u8]) -> Option<(Name, Name, u64, u64)>
-    ensures { ReadsOperands (λ read. read.0 ∷ read.1 ∷ []) (λ read. read.2 ∷ read.3 ∷ []) (words_of text.now) result }
+    ensures { ReadsTwoNamesTwoNumbers (words_of text.now) result }
 {
     let mut words = Words::new(text);
     let first = words.name()?;
@@ -54,8 +52,8 @@ pub(crate) fn two_names_two_numbers(text: &[u8]) -> Option<(Name, Name, u64, u64
     words.is_empty().then_some((first, second, n, m))
 }
 
-pub(crate) fn name_and_option(text: &[u8]) -> Option<(Name, Option<u64>)>
-    ensures { ReadsOperands (λ read. read.0 ∷ []) (λ read. option_to_list read.1) (words_of text.now) result }
+pub(crate) fn name_option(text: &[u8]) -> Option<(Name, Option<u64>)>
+    ensures { ReadsNameOption (words_of text.now) result }
 {
     let mut words = Words::new(text);
     let name = words.name()?;

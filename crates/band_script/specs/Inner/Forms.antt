@@ -1,42 +1,42 @@
--- The words of the forms.
+-- The forms of lines: the word that names each, and what follows it.
 use Rattle.std.specs.Prelude.{◌≡◌, ◌≢◌, ℕ, List, ◌∷◌, ◌++◌, codes, Option, Some, None}
 use Rattle.std.specs.Borrow.{Bor}
 use Rattle.band_script.specs.declared.call.Call.{Call}
-use Rattle.band_script.specs.Call.{ForReaders, parts, written}
 use Rattle.band_script.specs.declared.form.Form.{Form}
-use Rattle.band_script.specs.declared.form.Form.TheVariants as forms
-use Rattle.band_script.specs.declared.form.OneName.TheVariants as in_onename
-use Rattle.band_script.specs.declared.form.NameNumber.TheVariants as in_namenumber
-use Rattle.band_script.specs.declared.form.TwoNames.TheVariants as in_twonames
-use Rattle.band_script.specs.declared.form.TwoNamesNumber.TheVariants as in_twonamesnumber
+use Rattle.band_script.specs.declared.form.Form.TheVariants.{OneName, NameNumber, TwoNames, TwoNamesNumber, Rw, Ask}
+use Rattle.band_script.specs.declared.form.NameNumber.TheVariants as name_number
+use Rattle.band_script.specs.declared.form.OneName.TheVariants as one_name
+use Rattle.band_script.specs.declared.form.TwoNames.TheVariants as two_names
+use Rattle.band_script.specs.declared.form.TwoNamesNumber.TheVariants as two_names_number
+use Rattle.band_script.specs.Call.{ForReaders, parts, written}
 
 abbrev pub word_of : Form → List ℕ
-word_of (forms.OneName in_onename.Mutex) = codes "mutex"
-word_of (forms.OneName in_onename.Drop) = codes "drop"
-word_of (forms.OneName in_onename.Forget) = codes "forget"
-word_of (forms.OneName in_onename.Downgrade) = codes "downgrade"
-word_of (forms.OneName in_onename.Status) = codes "status"
-word_of (forms.NameNumber in_namenumber.Sem) = codes "sem"
-word_of (forms.NameNumber in_namenumber.Poll) = codes "poll"
-word_of (forms.NameNumber in_namenumber.Release) = codes "release"
-word_of (forms.NameNumber in_namenumber.Reduce) = codes "reduce"
-word_of (forms.NameNumber in_namenumber.Drain) = codes "drain"
-word_of (forms.TwoNames in_twonames.TryLock) = codes "trylock"
-word_of (forms.TwoNames in_twonames.TryRead) = codes "tryread"
-word_of (forms.TwoNames in_twonames.TryWrite) = codes "trywrite"
-word_of (forms.TwoNames in_twonames.Merge) = codes "merge"
-word_of (forms.TwoNamesNumber in_twonamesnumber.Lock) = codes "lock"
-word_of (forms.TwoNamesNumber in_twonamesnumber.Read) = codes "read"
-word_of (forms.TwoNamesNumber in_twonamesnumber.Write) = codes "write"
-word_of (forms.TwoNamesNumber in_twonamesnumber.Try) = codes "try"
-word_of (forms.TwoNamesNumber in_twonamesnumber.Split) = codes "split"
-word_of forms.Rw = codes "rw"
-word_of forms.Ask = codes "ask"
+word_of (OneName one_name.Mutex) = codes "mutex"
+word_of (OneName one_name.Drop) = codes "drop"
+word_of (OneName one_name.Forget) = codes "forget"
+word_of (OneName one_name.Downgrade) = codes "downgrade"
+word_of (OneName one_name.Status) = codes "status"
+word_of (NameNumber name_number.Sem) = codes "sem"
+word_of (NameNumber name_number.Poll) = codes "poll"
+word_of (NameNumber name_number.Release) = codes "release"
+word_of (NameNumber name_number.Reduce) = codes "reduce"
+word_of (NameNumber name_number.Drain) = codes "drain"
+word_of (TwoNames two_names.TryLock) = codes "trylock"
+word_of (TwoNames two_names.TryRead) = codes "tryread"
+word_of (TwoNames two_names.TryWrite) = codes "trywrite"
+word_of (TwoNames two_names.Merge) = codes "merge"
+word_of (TwoNamesNumber two_names_number.Lock) = codes "lock"
+word_of (TwoNamesNumber two_names_number.Read) = codes "read"
+word_of (TwoNamesNumber two_names_number.Write) = codes "write"
+word_of (TwoNamesNumber two_names_number.Try) = codes "try"
+word_of (TwoNamesNumber two_names_number.Split) = codes "split"
+word_of Rw = codes "rw"
+word_of Ask = codes "ask"
 
--- a line begins with the word of a form and a space, and what follows them, or it begins with none
+-- a line begins with the word of a form and a space, and this follows, or with no such word
 abbrev pub ReadsForm : List ℕ → Option (Form × Bor (List ℕ)) → Type 0
 ReadsForm line None = (call : Call) (rest : List ℕ) → line ≢ (parts call).form ++ 32 ∷ rest
-ReadsForm line (Some split) = line ≡ word_of split.0 ++ 32 ∷ split.1.now
+ReadsForm line (Some read) = line ≡ word_of read.0 ++ 32 ∷ read.1.now
 
 -- a call is written in a form, with these names and numbers
 abbrev pub IsWritten : Call → Form → List (List ℕ) → List ℕ → Type 0

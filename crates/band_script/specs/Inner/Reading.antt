@@ -4,6 +4,7 @@ use Rattle.std.specs.Borrow.{Bor}
 use Rattle.std.specs.Fmt.{decimal}
 use Rattle.std.specs.Char.{is_ascii_digit}
 use Rattle.std.specs.List.{prefix_len, take_while}
+use Rattle.std.specs.Option.{option_to_list}
 use Rattle.std.specs.Str.Parse.{digits_value}
 use Rattle.band_script.specs.declared.call.Call.{Call}
 use Rattle.band_script.specs.declared.words.Words.{Words}
@@ -68,6 +69,24 @@ ReadsDigits text (Some read) =
 abbrev pub ReadsOperands : {A : Type 0} → (A → List (List ℕ)) → (A → List ℕ) → List (List ℕ) → Option A → Type 0
 ReadsOperands {A} names numbers words None = (a : A) → IsTrue (are_operands (names a) (numbers a)) → words ≢ operands (names a) (numbers a)
 ReadsOperands {A} names numbers words (Some a) = IsTrue (are_operands (names a) (numbers a)) × (words ≡ operands (names a) (numbers a))
+
+abbrev pub ReadsOneName : List (List ℕ) → Option (List ℕ) → Type 0
+ReadsOneName = ReadsOperands (λ name. name ∷ []) (λ name. [])
+
+abbrev pub ReadsNameNumber : List (List ℕ) → Option (List ℕ × ℕ) → Type 0
+ReadsNameNumber = ReadsOperands (λ read. read.0 ∷ []) (λ read. read.1 ∷ [])
+
+abbrev pub ReadsNameOption : List (List ℕ) → Option (List ℕ × Option ℕ) → Type 0
+ReadsNameOption = ReadsOperands (λ read. read.0 ∷ []) (λ read. option_to_list read.1)
+
+abbrev pub ReadsTwoNames : List (List ℕ) → Option (List ℕ × List ℕ) → Type 0
+ReadsTwoNames = ReadsOperands (λ read. read.0 ∷ read.1 ∷ []) (λ read. [])
+
+abbrev pub ReadsTwoNamesNumber : List (List ℕ) → Option (List ℕ × List ℕ × ℕ) → Type 0
+ReadsTwoNamesNumber = ReadsOperands (λ read. read.0 ∷ read.1 ∷ []) (λ read. read.2 ∷ [])
+
+abbrev pub ReadsTwoNamesTwoNumbers : List (List ℕ) → Option (List ℕ × List ℕ × ℕ × ℕ) → Type 0
+ReadsTwoNamesTwoNumbers = ReadsOperands (λ read. read.0 ∷ read.1 ∷ []) (λ read. read.2 ∷ read.3 ∷ [])
 
 -- the answer is the call that a line stands for, and none only where it stands for none
 abbrev pub Decodes : List ℕ → Option Call → Type 0
