@@ -3,3 +3,4 @@ pub mod Grammar
 pub mod Inner
 pub mod Name
 pub mod Number
+pub mod Rows

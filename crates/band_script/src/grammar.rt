@@ -3,6 +3,7 @@ ghost use Rattle.std.specs.Prelude.{◌≡◌, ◌↔◌, ◌≤◌, ◌∷◌, 
 ghost use Rattle.band_script.specs.declared.call.Call.{Call as TheCall};
 ghost use Rattle.band_script.specs.Call.{ForReaders};
 ghost use Rattle.band_script.specs.Grammar.{IsLine, call_of};
+ghost use Rattle.band_script.specs.Rows.{WorkedLines};
 ghost use Rattle.band_script.specs.Inner.Reading.{Decodes};
 ghost use Rattle.band_script.specs.Inner.Forms.{word_of};
 
@@ -86,8 +87,8 @@ fn read_ask(rest: &[u8]) -> Option<Call>
     Some(Call::Ask { made, of, n, waker })
 }
 
-/// A line is read as a call just where it stands for the call.
-pub fn reads_just_lines()
+/// A line is decoded as a call exactly where it stands for the call.
+pub fn decodes_exactly()
     ensures { (line : List ℕ) (call : TheCall) → (call_of line ≡ Some call) ↔ IsLine line call }
 {}
 
@@ -100,4 +101,9 @@ pub fn one_call()
 pub fn longest_line()
     ensures most { (line : List ℕ) (call : TheCall) → IsLine line call → length line ≤ 111 }
     ensures reached { (line : List ℕ) × ((call : TheCall) × IsLine line call × (length line ≡ 111)) }
+{}
+
+/// Lines with what each stands for.
+pub fn worked_lines()
+    ensures { WorkedLines }
 {}

@@ -11,5 +11,8 @@ mod text;
 mod words;
 
 pub use call::Call;
-pub use grammar::{longest_line, one_call, parse_line, reads_just_lines};
+pub use grammar::{decodes_exactly, longest_line, one_call, parse_line, worked_lines};
 pub use name::Name;
+
+#[cfg(test)]
+mod tests;
