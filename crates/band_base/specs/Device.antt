@@ -1,19 +1,24 @@
-use Rattle.std.specs.Prelude.{◌≡◌, ℕ, ◌+◌, ◌-◌, ◌^◌, ◌≤◌, min, List, ◌++◌, Option, Some, None}
+-- What a device owes. What a read or a write does to bytes that are told is said by `Consumes`, `Appends`, `Keeps` and `IsAtEnd` of
+-- `Rattle.std.specs.Io.KnownBytes`, which say nothing where the bytes are not told.
+use Rattle.std.specs.Prelude.{◌≡◌, ℕ, ◌+◌, ◌-◌, ◌^◌, ◌≤◌, min, List, ◌++◌, Option}
+use Rattle.std.specs.Io.KnownBytes.{Appends}
+
+-- a count of faults, one fault later: it stays at the largest number
+abbrev pub one_fault_more : ℕ → ℕ
+one_fault_more before = min (before + 1) (2 ^ 64 - 1)
 
 -- the count of faults rose, or stands at the largest number
 abbrev pub Rose : ℕ → ℕ → Type 0
-Rose before now = min (before + 1) (2 ^ 64 - 1) ≤ now
+Rose before now = one_fault_more before ≤ now
 
--- this piece was taken from the front of what was left, where that is told
-abbrev pub GivesFront : List ℕ → Option (List ℕ) → Option (List ℕ) → Type 0
-GivesFront piece (Some before) (Some after) = before ≡ piece ++ after
-GivesFront piece None None = Unit {0}
-GivesFront piece (Some before) None = ⊥
-GivesFront piece None (Some after) = ⊥
+-- a prefix of this text was appended to what was written, where that is told
+pub record AppendsPrefix (text : List ℕ) (before after : Option (List ℕ)) : Type 0 where
+  pub prefix : List ℕ
+  pub rest : List ℕ
+  pub whole : prefix ++ rest ≡ text
+  pub appended : Appends before after prefix
 
--- this piece was added at the end of what was written, where that is told
-abbrev pub Adds : List ℕ → Option (List ℕ) → Option (List ℕ) → Type 0
-Adds piece (Some before) (Some after) = after ≡ before ++ piece
-Adds piece None None = Unit {0}
-Adds piece (Some before) None = ⊥
-Adds piece None (Some after) = ⊥
+-- a reader or a writer, and how often it has failed
+pub record Counted (D : Type 0) : Type 0 where
+  pub device : D
+  pub faults : ℕ

@@ -8,13 +8,19 @@ pub record Calls : Type 0 where
   pub made : ℕ
   pub failed : ℕ
 
+-- no call was made yet
+abbrev pub new_calls : List ℕ → Calls
+new_calls fail = record { fail = fail; made = 0; failed = 0 }
+
 -- the largest number that a call has
 abbrev pub last_number : ℕ
 last_number = 2 ^ 64 - 1
 
 -- does the next call fail? The ones after the last number don't.
 abbrev pub fails_next : Calls → Bool
-fails_next calls = if calls.made == last_number then false else list_any (λ number. number == calls.made + 1) calls.fail
+fails_next calls =
+    if calls.made == last_number then false
+    else list_any (λ number. number == calls.made + 1) calls.fail
 
 -- once the next call was made
 abbrev pub counted : Calls → Calls

@@ -1,6 +1,6 @@
 //! Which calls of a device fail.
 ghost use Rattle.std.specs.Prelude.{◌≡◌, ◌≤◌};
-ghost use Rattle.band_base.specs.Failing.{fails_next, counted};
+ghost use Rattle.band_base.specs.Failing.{new_calls, fails_next, counted};
 
 use std::marker::Model;
 
@@ -23,7 +23,7 @@ impl<'a> Model for Failures<'a> {
 impl<'a> Failures<'a> {
     /// No call was made yet.
     pub(crate) fn new(fail: &'a [u64]) -> Failures<'a>
-        ensures { result ≡ record { fail = fail.now; made = 0; failed = 0 } }
+        ensures { result ≡ new_calls fail.now }
     {
         Failures {
             fail,

@@ -13,8 +13,8 @@ mod wake_line;
 mod waker;
 
 pub use poll::{Poll, PollError};
-pub use sink::{BytesOut, FailingOut, Sink, SinkError, StdErr, StdOut};
-pub use source::{BytesIn, FailingIn, Source, SourceFailed, StdIn};
+pub use sink::{BytesOut, FailingOut, Sink, SinkError, StdErr, StdOut, WriterSink, write_all};
+pub use source::{BytesIn, FailingIn, ReaderSource, Source, SourceFailed, StdIn};
 pub use steps::Steps;
 pub use wake_line::WakeLine;
 pub use waker::Waker;

@@ -1,8 +1,8 @@
 //! Where bytes go to.
-ghost use Rattle.std.specs.Prelude.{◌≡◌, ℕ, ◌+◌, ◌-◌, ◌^◌, ◌<◌, ◌≤◌, min, List, [], ◌++◌, take, length, Option, Some, None, IfOk, IfErr, OnErr, MatchResult, IsTrue, ◌↔◌};
-ghost use Rattle.std.specs.Io.KnownBytes.{WriteAppends};
-ghost use Rattle.band_base.specs.Device.{Rose, Adds};
-ghost use Rattle.band_base.specs.Failing.{fails_next, counted};
+ghost use Rattle.std.specs.Prelude.{◌≡◌, ℕ, ◌<◌, ◌≤◌, min, List, [], ◌++◌, take, length, Bool, true, false, Option, Some, IfOk, IfErr, OnOk, OnErr, MatchResult, IsTrue, ◌↔◌};
+ghost use Rattle.std.specs.Io.KnownBytes.{Appends, Keeps};
+ghost use Rattle.band_base.specs.Device.{Rose, one_fault_more, AppendsPrefix};
+ghost use Rattle.band_base.specs.Failing.{new_calls, fails_next, counted};
 
 use crate::failures::Failures;
 use std::alloc::Global;
@@ -10,7 +10,7 @@ use std::io::{Stderr, Stdout, Write};
 use std::marker::Model;
 use thiserror::Error;
 
-/// Why a write took nothing.
+/// Why a write wrote nothing.
 #[derive(Debug, Drop, Error)]
 pub enum SinkError {
     /// The sink failed.
@@ -21,23 +21,27 @@ pub enum SinkError {
     NoMemory,
 }
 
-/// A sink of bytes (own). It stands for `std::io::Write` with causes.
+/// A sink of bytes. It stands for `std::io::Write`, with causes of its errors.
 pub trait Sink {
-    /// The bytes written, where it tells them.
+    /// The bytes written, where it tells them. Of the bytes of one that tells none no clause says anything.
     ghost written: { Self → Option (List ℕ) };
 
     /// How often it has failed, up to the largest count.
     ghost faults: { Self → ℕ };
 
-    /// Takes some of the front of `piece`, and answers how many bytes.
+    /// Whether it grows in memory.
+    ghost grows: { Bool };
+
+    /// Writes a prefix of `piece`, and answers how many bytes.
     fn write(&mut self, piece: &[u8]) -> Result<usize, SinkError>
         ensures count { IfOk result (λ n. n ≤ length piece.now) }
         // It takes something, if there is something.
         ensures some { IfOk result (λ n. 0 < length piece.now → 0 < n) }
-        ensures adds { IfOk result (λ n. Adds (take n piece.now) (written self.old) (written self.new)) }
-        ensures err { OnErr result (written self.new ≡ written self.old) }
+        ensures adds { IfOk result (λ n. Appends (written self.old) (written self.new) (take n piece.now)) }
+        ensures err { OnErr result (Keeps (written self.old) (written self.new)) }
         ensures never_fall { faults self.old ≤ faults self.new }
-        ensures failed { result ≡ Err SinkError.Failed → Rose (faults self.old) (faults self.new) };
+        ensures failed { result ≡ Err SinkError.Failed → Rose (faults self.old) (faults self.new) }
+        ensures no_memory { result ≡ Err SinkError.NoMemory → IsTrue grows };
 }
 
 /// A sink that keeps its bytes in memory. It tells them, and fails only where there is no memory.
@@ -76,6 +80,8 @@ impl Sink for BytesOut {
     ghost written = { λ s. Some s };
 
     ghost faults = { λ _. 0 };
+
+    ghost grows = { true };
 
     fn write(&mut self, piece: &[u8]) -> Result<usize, SinkError>
         // It takes the whole piece, or there is no memory and nothing changes.
@@ -116,7 +122,7 @@ impl<'a> FailingOut<'a> {
     /// `fail`. No call fails once more than the largest `u64` were made.
     pub fn new(alloc: Global, most: usize, fail: &'a [u64]) -> FailingOut<'a>
         requires { 0 < most }
-        ensures { result ≡ record { written = []; most = most; calls = record { fail = fail.now; made = 0; failed = 0 } } }
+        ensures { result ≡ record { written = []; most = most; calls = new_calls fail.now } }
     {
         FailingOut {
             taken: Vec::new(alloc),
@@ -138,6 +144,8 @@ impl Sink for FailingOut<'_> {
 
     ghost faults = { λ s. s.calls.failed };
 
+    ghost grows = { true };
+
     fn write(&mut self, piece: &[u8]) -> Result<usize, SinkError>
         // It fails exactly where the call's number says so.
         ensures fails { (result ≡ Err SinkError.Failed) ↔ IsTrue (fails_next self.old.calls) }
@@ -148,7 +156,7 @@ impl Sink for FailingOut<'_> {
         ensures count { IfOk result (λ n. n ≤ length piece.now) }
         ensures some { IfOk result (λ n. 0 < length piece.now → 0 < n) }
         ensures adds { IfOk result (λ n. self.new.written ≡ self.old.written ++ take n piece.now) }
-        ensures err { OnErr result (Some self.new.written ≡ Some self.old.written) }
+        ensures err { OnErr result (self.new.written ≡ self.old.written) }
         ensures never_fall { self.old.calls.failed ≤ self.new.calls.failed }
         ensures failed { result ≡ Err SinkError.Failed → Rose self.old.calls.failed self.new.calls.failed }
     {
@@ -163,24 +171,61 @@ impl Sink for FailingOut<'_> {
     }
 }
 
-/// What the two standard streams share: a writer that keeps nothing back, and how often it has failed.
+/// A sink over a writer of std, which tells the bytes that the writer tells.
+///
+/// Any error that the writer answers is answered, interruption too: nothing is tried again. A write that takes nothing of a
+/// piece that isn't empty is an error. It counts its errors.
 #[derive(Drop)]
-struct Edge<W> {
+pub struct WriterSink<W> {
     writer: W,
     faults: u64,
 }
 
-impl<W: Write> Edge<W> {
+impl<W> Model for WriterSink<W> {
+    ghost use Rattle.band_base.specs.Device.{Counted};
+
+    ghost Value = { Counted W };
+
+    ghost view = { λ s. record { device = s.writer; faults = s.faults } };
+}
+
+impl<W: Write> WriterSink<W> {
+    /// A sink over `writer`, which has not failed yet. The writer should keep nothing back, as the standard streams: it is never
+    /// flushed.
+    pub fn new(writer: W) -> WriterSink<W>
+        ensures { result ≡ record { device = writer; faults = 0 } }
+    {
+        WriterSink { writer, faults: 0 }
+    }
+
+    /// How often it has failed, up to the largest count.
+    pub fn faults(&self) -> u64
+        ensures { result ≡ self.now.faults }
+    {
+        self.faults
+    }
+}
+
+impl<W: Write> Sink for WriterSink<W> {
+    ghost written = { λ s. W.contents s.device };
+
+    ghost faults = { λ s. s.faults };
+
+    ghost grows = { false };
+
     fn write(&mut self, piece: &[u8]) -> Result<usize, SinkError>
         ensures count { IfOk result (λ n. n ≤ length piece.now) }
         ensures some { IfOk result (λ n. 0 < length piece.now → 0 < n) }
-        // What it answers is what the writer took: the n bytes of an `Ok(n)`, and at an error none.
-        ensures took { WriteAppends (W.contents self.old.writer) (W.contents self.new.writer) result piece.now }
-        ensures failed { IfErr result (λ e. e ≡ SinkError.Failed) }
+        ensures adds { IfOk result (λ n.
+            Appends (W.contents self.old.device) (W.contents self.new.device) (take n piece.now)) }
+        ensures err { OnErr result (Keeps (W.contents self.old.device) (W.contents self.new.device)) }
         ensures never_fall { self.old.faults ≤ self.new.faults }
+        ensures failed { result ≡ Err SinkError.Failed → Rose self.old.faults self.new.faults }
+        ensures no_memory { IfErr result (λ e. e ≡ SinkError.Failed) }
+        // An error counts once, and nothing else does.
         ensures counts { MatchResult result
             (λ _. self.new.faults ≡ self.old.faults)
-            (λ _. self.new.faults ≡ min (self.old.faults + 1) (2 ^ 64 - 1)) }
+            (λ _. self.new.faults ≡ one_fault_more self.old.faults) }
     {
         match self.writer.write(piece) {
             Ok(count) if count > 0 || piece.is_empty() => Ok(count),
@@ -192,98 +237,24 @@ impl<W: Write> Edge<W> {
     }
 }
 
-/// The process's standard output as a sink. It tells no bytes; contracts see how often it has failed.
-#[derive(Drop)]
-pub struct StdOut {
-    edge: Edge<Stdout>,
-}
+/// The process's standard output as a sink, `StdOut::new(rt.stdout())`. It tells no bytes.
+pub type StdOut = WriterSink<Stdout>;
 
-impl Model for StdOut {
-    ghost use Rattle.std.specs.Prelude.{ℕ};
+/// The process's standard error as a sink, `StdErr::new(rt.stderr())`. It tells no bytes.
+pub type StdErr = WriterSink<Stderr>;
 
-    ghost Value = { ℕ };
-
-    ghost view = { λ s. s.edge.faults };
-}
-
-impl StdOut {
-    /// A sink over `rt.stdout()`, which has not failed yet.
-    pub fn new(stdout: Stdout) -> StdOut
-        ensures { result ≡ 0 }
-    {
-        StdOut {
-            edge: Edge {
-                writer: stdout,
-                faults: 0,
-            },
-        }
+/// Writes a whole text, in as many parts as the sink takes. After an error a prefix of it is written.
+pub fn write_all<D: Sink>(sink: &mut D, text: &[u8]) -> Result<(), SinkError>
+    ensures ok { OnOk result (Appends (D.written sink.old) (D.written sink.new) text.now) }
+    ensures err { OnErr result (AppendsPrefix text.now (D.written sink.old) (D.written sink.new)) }
+    ensures never_fall { D.faults sink.old ≤ D.faults sink.new }
+    ensures failed { result ≡ Err SinkError.Failed → Rose (D.faults sink.old) (D.faults sink.new) }
+    ensures no_memory { result ≡ Err SinkError.NoMemory → IsTrue D.grows }
+{
+    let mut rest = text;
+    while !rest.is_empty() {
+        let count = sink.write(rest)?;
+        rest = &rest[count..];
     }
-}
-
-impl Sink for StdOut {
-    ghost written = { λ _. None };
-
-    ghost faults = { λ s. s };
-
-    fn write(&mut self, piece: &[u8]) -> Result<usize, SinkError>
-        ensures count { IfOk result (λ n. n ≤ length piece.now) }
-        ensures some { IfOk result (λ n. 0 < length piece.now → 0 < n) }
-        ensures never_fall { self.old ≤ self.new }
-        ensures failed { result ≡ Err SinkError.Failed → Rose self.old self.new }
-        // An error counts once, and nothing else does.
-        ensures counts { MatchResult result
-            (λ _. self.new ≡ self.old)
-            (λ _. self.new ≡ min (self.old + 1) (2 ^ 64 - 1)) }
-        ensures never_memory { IfErr result (λ e. e ≡ SinkError.Failed) }
-    {
-        self.edge.write(piece)
-    }
-}
-
-/// The process's standard error as a sink. It tells no bytes; contracts see how often it has failed.
-#[derive(Drop)]
-pub struct StdErr {
-    edge: Edge<Stderr>,
-}
-
-impl Model for StdErr {
-    ghost use Rattle.std.specs.Prelude.{ℕ};
-
-    ghost Value = { ℕ };
-
-    ghost view = { λ s. s.edge.faults };
-}
-
-impl StdErr {
-    /// A sink over `rt.stderr()`, which has not failed yet.
-    pub fn new(stderr: Stderr) -> StdErr
-        ensures { result ≡ 0 }
-    {
-        StdErr {
-            edge: Edge {
-                writer: stderr,
-                faults: 0,
-            },
-        }
-    }
-}
-
-impl Sink for StdErr {
-    ghost written = { λ _. None };
-
-    ghost faults = { λ s. s };
-
-    fn write(&mut self, piece: &[u8]) -> Result<usize, SinkError>
-        ensures count { IfOk result (λ n. n ≤ length piece.now) }
-        ensures some { IfOk result (λ n. 0 < length piece.now → 0 < n) }
-        ensures never_fall { self.old ≤ self.new }
-        ensures failed { result ≡ Err SinkError.Failed → Rose self.old self.new }
-        // An error counts once, and nothing else does.
-        ensures counts { MatchResult result
-            (λ _. self.new ≡ self.old)
-            (λ _. self.new ≡ min (self.old + 1) (2 ^ 64 - 1)) }
-        ensures never_memory { IfErr result (λ e. e ≡ SinkError.Failed) }
-    {
-        self.edge.write(piece)
-    }
+    Ok(())
 }

@@ -1,22 +1,22 @@
 //! Where bytes come from.
-ghost use Rattle.std.specs.Prelude.{◌≡◌, ℕ, ◌+◌, ◌-◌, ◌^◌, ◌<◌, ◌≤◌, min, List, [], ◌++◌, take, length, Option, Some, None, IfOk, OnErr, IsErr, IfSome, MatchResult, IsTrue, ◌↔◌};
-ghost use Rattle.std.specs.Io.KnownBytes.{ReadConsumes};
-ghost use Rattle.band_base.specs.Device.{Rose, GivesFront};
-ghost use Rattle.band_base.specs.Failing.{fails_next, counted};
+ghost use Rattle.std.specs.Prelude.{◌≡◌, ℕ, ◌<◌, ◌≤◌, min, List, [], ◌++◌, take, length, Option, Some, IfOk, OnErr, IsErr, MatchResult, IsTrue, ◌↔◌};
+ghost use Rattle.std.specs.Io.KnownBytes.{Consumes, Keeps, IsAtEnd};
+ghost use Rattle.band_base.specs.Device.{Rose, one_fault_more};
+ghost use Rattle.band_base.specs.Failing.{new_calls, fails_next, counted};
 
 use crate::failures::Failures;
 use std::io::{Read, Stdin};
 use std::marker::Model;
 use thiserror::Error;
 
-/// A read failed. The source took nothing.
+/// A read failed, and took nothing from the source.
 #[derive(Debug, Drop, Error)]
 #[error("the source failed")]
 pub struct SourceFailed;
 
-/// A source of bytes (own). Ports nothing: it stands for `std::io::Read` with causes.
+/// A source of bytes. It stands for `std::io::Read`, with causes of its errors.
 pub trait Source {
-    /// The bytes that are left, where it tells them.
+    /// The bytes that are left, where it tells them. Of the bytes of one that tells none no clause says anything.
     ghost left: { Self → Option (List ℕ) };
 
     /// How often it has failed, up to the largest count.
@@ -25,10 +25,10 @@ pub trait Source {
     /// Puts some of the bytes that are left into the front of `buf`, and answers how many.
     fn read(&mut self, buf: &mut [u8]) -> Result<usize, SourceFailed>
         ensures count { IfOk result (λ n. n ≤ length buf.old) }
-        ensures front { IfOk result (λ n. GivesFront (take n buf.new) (left self.old) (left self.new)) }
-        // It answers 0 only at the end, where it tells its bytes.
-        ensures end { result ≡ Ok 0 → 0 < length buf.old → IfSome (left self.old) (λ bytes. bytes ≡ []) }
-        ensures err { OnErr result (left self.new ≡ left self.old) }
+        ensures front { IfOk result (λ n. Consumes (left self.old) (left self.new) (take n buf.new)) }
+        // It answers 0 only at the end, or where there is no room.
+        ensures end { result ≡ Ok 0 → 0 < length buf.old → IsAtEnd (left self.new) }
+        ensures err { OnErr result (Keeps (left self.old) (left self.new)) }
         ensures never_fall { faults self.old ≤ faults self.new }
         ensures failed { OnErr result (Rose (faults self.old) (faults self.new)) };
 }
@@ -66,8 +66,9 @@ impl Source for BytesIn<'_> {
         ensures most { result ≡ Ok (min (length self.old) (length buf.old)) }
         ensures count { IfOk result (λ n. n ≤ length buf.old) }
         ensures front { IfOk result (λ n. self.old ≡ take n buf.new ++ self.new) }
-        ensures end { result ≡ Ok 0 → 0 < length buf.old → self.old ≡ [] }
-        ensures err { OnErr result (Some self.new ≡ Some self.old) }
+        ensures end { result ≡ Ok 0 → 0 < length buf.old → self.new ≡ [] }
+        // What the trait asks of errors and faults, of which there are none.
+        ensures err { OnErr result (self.new ≡ self.old) }
         ensures never_fall { 0 ≤ 0 }
         ensures failed { OnErr result (Rose 0 0) }
     {
@@ -104,7 +105,7 @@ impl<'a> FailingIn<'a> {
     /// stand in `fail`. No call fails once more than the largest `u64` were made.
     pub fn new(bytes: &'a [u8], most: usize, fail: &'a [u64]) -> FailingIn<'a>
         requires { 0 < most }
-        ensures { result ≡ record { left = bytes.now; most = most; calls = record { fail = fail.now; made = 0; failed = 0 } } }
+        ensures { result ≡ record { left = bytes.now; most = most; calls = new_calls fail.now } }
     {
         FailingIn {
             rest: bytes,
@@ -123,13 +124,14 @@ impl Source for FailingIn<'_> {
         // It fails exactly where the call's number says so.
         ensures fails { IsErr result ↔ IsTrue (fails_next self.old.calls) }
         // Else it gives as many as it may, of those that are left and fit.
-        ensures most { IfOk result (λ n. n ≡ min self.old.most (min (length self.old.left) (length buf.old))) }
+        ensures most { IfOk result (λ n.
+            n ≡ min self.old.most (min (length self.old.left) (length buf.old))) }
         ensures counts { self.new.calls ≡ counted self.old.calls }
         ensures same { self.new.most ≡ self.old.most }
         ensures count { IfOk result (λ n. n ≤ length buf.old) }
         ensures front { IfOk result (λ n. self.old.left ≡ take n buf.new ++ self.new.left) }
-        ensures end { result ≡ Ok 0 → 0 < length buf.old → self.old.left ≡ [] }
-        ensures err { OnErr result (Some self.new.left ≡ Some self.old.left) }
+        ensures end { result ≡ Ok 0 → 0 < length buf.old → self.new.left ≡ [] }
+        ensures err { OnErr result (self.new.left ≡ self.old.left) }
         ensures never_fall { self.old.calls.failed ≤ self.new.calls.failed }
         ensures failed { OnErr result (Rose self.old.calls.failed self.new.calls.failed) }
     {
@@ -144,22 +146,56 @@ impl Source for FailingIn<'_> {
     }
 }
 
-/// What stands under the standard input: a reader, and how often it has failed.
+/// A source over a reader of std, which tells the bytes that the reader tells.
+///
+/// Any error that the reader answers is answered, interruption too: nothing is tried again. It counts its errors.
 #[derive(Drop)]
-struct Inlet<R> {
+pub struct ReaderSource<R> {
     reader: R,
     faults: u64,
 }
 
-impl<R: Read> Inlet<R> {
+impl<R> Model for ReaderSource<R> {
+    ghost use Rattle.band_base.specs.Device.{Counted};
+
+    ghost Value = { Counted R };
+
+    ghost view = { λ s. record { device = s.reader; faults = s.faults } };
+}
+
+impl<R: Read> ReaderSource<R> {
+    /// A source over `reader`, which has not failed yet.
+    pub fn new(reader: R) -> ReaderSource<R>
+        ensures { result ≡ record { device = reader; faults = 0 } }
+    {
+        ReaderSource { reader, faults: 0 }
+    }
+
+    /// How often it has failed, up to the largest count.
+    pub fn faults(&self) -> u64
+        ensures { result ≡ self.now.faults }
+    {
+        self.faults
+    }
+}
+
+impl<R: Read> Source for ReaderSource<R> {
+    ghost left = { λ s. R.remaining s.device };
+
+    ghost faults = { λ s. s.faults };
+
     fn read(&mut self, buf: &mut [u8]) -> Result<usize, SourceFailed>
         ensures count { IfOk result (λ n. n ≤ length buf.old) }
-        // What it answers is what the reader gave: the n bytes of an `Ok(n)`, 0 only at its end, and at an error none.
-        ensures gave { ReadConsumes (R.remaining self.old.reader) (R.remaining self.new.reader) result buf.new }
+        ensures front { IfOk result (λ n.
+            Consumes (R.remaining self.old.device) (R.remaining self.new.device) (take n buf.new)) }
+        ensures end { result ≡ Ok 0 → 0 < length buf.old → IsAtEnd (R.remaining self.new.device) }
+        ensures err { OnErr result (Keeps (R.remaining self.old.device) (R.remaining self.new.device)) }
         ensures never_fall { self.old.faults ≤ self.new.faults }
+        ensures failed { OnErr result (Rose self.old.faults self.new.faults) }
+        // An error counts once, and nothing else does.
         ensures counts { MatchResult result
             (λ _. self.new.faults ≡ self.old.faults)
-            (λ _. self.new.faults ≡ min (self.old.faults + 1) (2 ^ 64 - 1)) }
+            (λ _. self.new.faults ≡ one_fault_more self.old.faults) }
     {
         match self.reader.read(buf) {
             Ok(count) => Ok(count),
@@ -171,49 +207,5 @@ impl<R: Read> Inlet<R> {
     }
 }
 
-/// The process's standard input as a source. It tells no bytes; contracts see how often it has failed.
-#[derive(Drop)]
-pub struct StdIn {
-    inlet: Inlet<Stdin>,
-}
-
-impl Model for StdIn {
-    ghost use Rattle.std.specs.Prelude.{ℕ};
-
-    ghost Value = { ℕ };
-
-    ghost view = { λ s. s.inlet.faults };
-}
-
-impl StdIn {
-    /// A source over `rt.stdin()`, which has not failed yet.
-    pub fn new(stdin: Stdin) -> StdIn
-        ensures { result ≡ 0 }
-    {
-        StdIn {
-            inlet: Inlet {
-                reader: stdin,
-                faults: 0,
-            },
-        }
-    }
-}
-
-impl Source for StdIn {
-    ghost left = { λ _. None };
-
-    ghost faults = { λ s. s };
-
-    fn read(&mut self, buf: &mut [u8]) -> Result<usize, SourceFailed>
-        ensures count { IfOk result (λ n. n ≤ length buf.old) }
-        ensures front { IfOk result (λ n. GivesFront (take n buf.new) None None) }
-        ensures never_fall { self.old ≤ self.new }
-        ensures failed { OnErr result (Rose self.old self.new) }
-        // An error counts once, and nothing else does.
-        ensures counts { MatchResult result
-            (λ _. self.new ≡ self.old)
-            (λ _. self.new ≡ min (self.old + 1) (2 ^ 64 - 1)) }
-    {
-        self.inlet.read(buf)
-    }
-}
+/// The process's standard input as a source, `StdIn::new(rt.stdin())`. It tells no bytes.
+pub type StdIn = ReaderSource<Stdin>;

@@ -1,7 +1,9 @@
 //! What no clause says: that calls succeed, the texts of the errors, and the standard streams.
-ghost use Rattle.std.specs.Prelude.{◌≡◌, ◌<◌};
+ghost use Rattle.std.specs.Prelude.{◌≡◌, ◌<◌, ◌≤◌, IfOk};
 
 use super::*;
+use std::io;
+use std::io::{Read, Write};
 use std::marker::Brand;
 use std::sync::ledger::{Blank, Ledger};
 use std::test::Fail;
@@ -38,6 +40,7 @@ fn wakes_the_oldest_first(rt: HostRuntime) -> Result<(), Fail> {
 fn same_number_same_waker(rt: HostRuntime) {
     assert!(rt; Waker(3).will_wake(&Waker(3)));
     assert!(rt; !Waker(3).will_wake(&Waker(4)));
+    assert!(rt; Waker(3) == Waker(3) && Waker(3) != Waker(4));
 }
 
 #[test]
@@ -96,6 +99,94 @@ fn a_sink_fails_at_its_calls(rt: HostRuntime) -> Result<(), Fail> {
     assert_eq!(rt; write_through(&mut sink, b"abc")?, 2);
     assert!(rt; matches!(write_through(&mut sink, b"c"), Err(SinkError::Failed)));
     assert_eq!(rt; write_through(&mut sink, b"c")?, 1);
+    assert_eq!(rt; sink.bytes(), b"abc".as_slice());
+    Ok(())
+}
+
+/// A reader or a writer that fails at its first call and each second one after it, and else gives or takes a byte.
+#[derive(Drop)]
+struct FailsByTurns {
+    calls: u8,
+}
+
+impl FailsByTurns {
+    fn moves_one(&mut self, room: usize) -> io::Result<usize>
+        ensures { IfOk result (λ n. n ≤ room) }
+    {
+        self.calls = self.calls.saturating_add(1);
+        match self.calls {
+            1 => Err(io::Error::from(io::ErrorKind::Interrupted)),
+            3 => Err(io::Error::from(io::ErrorKind::Other)),
+            _ => Ok(room.min(1)),
+        }
+    }
+}
+
+impl Read for FailsByTurns {
+    fn read(&mut self, buf: &mut [u8]) -> io::Result<usize> {
+        self.moves_one(buf.len())
+    }
+}
+
+impl Write for FailsByTurns {
+    fn write(&mut self, buf: &[u8]) -> io::Result<usize> {
+        self.moves_one(buf.len())
+    }
+
+    fn flush(&mut self) -> io::Result<()> {
+        Ok(())
+    }
+}
+
+#[test]
+fn a_read_that_failed_is_a_fault_and_not_tried_again(rt: HostRuntime) -> Result<(), Fail> {
+    let mut source = ReaderSource::new(FailsByTurns { calls: 0 });
+    for faults in 1..=2 {
+        assert!(rt; read_through(&mut source, &mut [0; 4]).is_err());
+        assert_eq!(rt; source.faults(), faults);
+        assert_eq!(rt; read_through(&mut source, &mut [0; 4])?, 1);
+        assert_eq!(rt; source.faults(), faults);
+    }
+    Ok(())
+}
+
+#[test]
+fn a_write_that_failed_is_a_fault_and_not_tried_again(rt: HostRuntime) -> Result<(), Fail> {
+    let mut sink = WriterSink::new(FailsByTurns { calls: 0 });
+    for faults in 1..=2 {
+        assert!(rt; matches!(write_through(&mut sink, b"ab"), Err(SinkError::Failed)));
+        assert_eq!(rt; sink.faults(), faults);
+        assert_eq!(rt; write_through(&mut sink, b"ab")?, 1);
+        assert_eq!(rt; sink.faults(), faults);
+    }
+    Ok(())
+}
+
+#[test]
+fn a_reader_gives_as_much_as_it_has(rt: HostRuntime) -> Result<(), Fail> {
+    let mut source = ReaderSource::new([1u8, 2, 3].as_slice());
+    let mut buf = [0; 4];
+    assert_eq!(rt; read_through(&mut source, &mut buf)?, 3);
+    assert_eq!(rt; buf, [1, 2, 3, 0]);
+    assert_eq!(rt; read_through(&mut source, &mut buf)?, 0);
+    Ok(())
+}
+
+#[test]
+fn a_writer_takes_as_much_as_it_can_and_then_is_at_fault(rt: HostRuntime) -> Result<(), Fail> {
+    let mut room = [0u8; 3];
+    let mut sink = WriterSink::new(room.as_mut_slice());
+    assert_eq!(rt; write_through(&mut sink, b"abcd")?, 3);
+    assert!(rt; matches!(write_through(&mut sink, b"d"), Err(SinkError::Failed)));
+    assert_eq!(rt; sink.faults(), 1);
+    Ok(())
+}
+
+#[test]
+fn a_whole_text_is_written_in_parts(rt: HostRuntime) -> Result<(), Fail> {
+    let mut sink = FailingOut::new(rt.alloc(), 2, &[3]);
+    write_all(&mut sink, b"abc")?;
+    assert!(rt; matches!(write_all(&mut sink, b"de"), Err(SinkError::Failed)));
     assert_eq!(rt; sink.bytes(), b"abc".as_slice());
     Ok(())
 }

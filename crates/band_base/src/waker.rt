@@ -10,6 +10,6 @@ impl Waker {
     pub fn will_wake(&self, other: &Waker) -> bool
         ensures { IsTrue result ↔ (self.now.0 ≡ other.now.0) }
     {
-        self.0 == other.0
+        self == other
     }
 }

@@ -1,3 +1,2 @@
-pub mod Lock
 pub mod ReaderWriter
 pub use Rattle.band_balance.specs.Line

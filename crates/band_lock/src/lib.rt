@@ -3,7 +3,6 @@
 
 mod mutex;
 mod rw_lock;
-mod shares;
 
 pub use mutex::{LockGuard, LockRequest, MutexState};
 pub use rw_lock::{ReadAccess, ReadRequest, RwLockState, WriteAccess, WriteRequest};

@@ -1,12 +1,12 @@
 //! The mutex.
-ghost use Rattle.std.specs.Prelude.{◌≡◌, ◌+◌, ◌-◌, ◌≤◌, ◌↔◌, [], ◌∷◌, IsTrue, IsSome, IfSome, OnSome, IfNone, MatchOption};
-ghost use Rattle.band_balance.specs.Line.{open_line, is_served, take_permits, give_back};
-ghost use Rattle.band_sem.specs.declared.acquire.Stage.{Stage};
+ghost use Rattle.std.specs.Prelude.{◌≡◌, ◌≤◌, ◌↔◌, IsTrue, IsSome, IfSome, OnSome, IfNone};
+ghost use Rattle.band_balance.specs.Line.{is_served};
 ghost use Rattle.band_sem.specs.Laws.{KeepsOrder, Leaves};
-ghost use Rattle.band_sem.specs.Semaphore.{IsLawful, IsOwn, Polls, cancelled, with_wakes};
-ghost use Rattle.band_lock.specs.Lock.{IsLock};
+ghost use Rattle.band_sem.specs.Permit.{new_permit};
+ghost use Rattle.band_sem.specs.Request.{new_request};
+ghost use Rattle.band_sem.specs.Semaphore.{IsLawful, IsOwn, Polls, new_state, taken, given_back, cancelled, TakesWake};
+ghost use Rattle.band_sem.specs.Whole.{IsWhole};
 
-use crate::shares;
 use band_base::{Poll, PollError, Steps, Waker};
 use band_sem::{Acquire, Semaphore, SemaphorePermit};
 use std::alloc::Global;
@@ -21,13 +21,13 @@ pub struct MutexState {
 
 impl Model for MutexState {
     ghost use Rattle.band_sem.specs.Semaphore.{SemaphoreState};
-    ghost use Rattle.band_lock.specs.Lock.{IsLock};
+    ghost use Rattle.band_sem.specs.Whole.{IsWhole};
 
     ghost Value = { SemaphoreState };
 
     ghost view = { λ m. m.semaphore };
 
-    ghost invariant = { λ m. IsLock 1 m.semaphore };
+    ghost invariant = { λ m. IsWhole 1 m.semaphore };
 }
 
 /// A request for a mutex. It must be ended by `cancel` or `lose`. Ports the future of `lock`.
@@ -65,25 +65,26 @@ impl Model for LockGuard {
 impl MutexState {
     /// A mutex that nobody has locked, which tokens know by `number`.
     pub fn new(alloc: Global, number: u64) -> MutexState
-        ensures start { result ≡ record { number = number; line = open_line 1; held = 0 } }
-        ensures lock { IsLock 1 result }
+        ensures start { result ≡ new_state number 1 }
+        ensures lawful { IsLawful result }
+        ensures whole { IsWhole 1 result }
     {
         MutexState {
             semaphore: Semaphore::new(alloc, number, 1),
         }
     }
 
-    /// Its one share as a semaphore, for its figures (own).
+    /// Its one share as a semaphore, for its figures.
     pub fn semaphore(&self) -> &Semaphore
         ensures share { result.now ≡ self.now }
-        ensures lock { IsLock 1 self.now }
+        ensures whole { IsWhole 1 self.now }
     {
         &self.semaphore
     }
 
     /// A request for it, not polled yet.
     pub fn lock(&self) -> LockRequest
-        ensures { result ≡ record { of = self.now.number; size = 1; stage = Stage.NotPolled } }
+        ensures { result ≡ new_request self.now.number 1 }
     {
         LockRequest {
             request: self.semaphore.acquire(1),
@@ -93,13 +94,13 @@ impl MutexState {
     /// Locks it if it is free and nobody waits. It never joins the line.
     pub fn try_lock(&mut self) -> Option<LockGuard>
         ensures served { IsSome result ↔ IsTrue (is_served 1 self.old.line) }
-        ensures guard { IfSome result (λ guard. guard ≡ record { of = self.old.number; count = 1 }) }
-        ensures some { OnSome result (self.new ≡ record self.old { line = take_permits 1 self.old.line; held = self.old.held + 1 }) }
+        ensures guard { IfSome result (λ guard. guard ≡ new_permit self.old.number 1) }
+        ensures some { OnSome result (self.new ≡ taken 1 self.old) }
         ensures none { IfNone result (self.new ≡ self.old) }
-        ensures lawful { IsLawful self.new.line self.new.held }
-        ensures lock { IsLock 1 self.new }
+        ensures lawful { IsLawful self.new }
+        ensures whole { IsWhole 1 self.new }
     {
-        let permit = shares::try_take(&mut self.semaphore, 1)?;
+        let permit = self.semaphore.try_acquire(1)?;
         Some(LockGuard { permit })
     }
 
@@ -108,28 +109,26 @@ impl MutexState {
         requires number { g.of ≡ self.old.number }
         requires held { g.count ≤ self.old.held }
         ensures one { g.count ≡ 1 }
-        ensures state { self.new ≡ record self.old { line = give_back 1 self.old.line; held = self.old.held - 1 } }
+        ensures state { self.new ≡ given_back 1 self.old }
         ensures order { KeepsOrder self.old.line self.new.line }
-        ensures lawful { IsLawful self.new.line self.new.held }
-        ensures lock { IsLock 1 self.new }
+        ensures lawful { IsLawful self.new }
+        ensures whole { IsWhole 1 self.new }
     {
-        shares::give_back(&mut self.semaphore, g.into_permit(), steps);
+        self.semaphore.drop_permit(g.into_permit(), steps);
     }
 
-    /// Takes the oldest waker to wake, if there is one (own).
+    /// Takes the oldest waker to wake, if there is one.
     pub fn take_wake(&mut self) -> Option<Waker>
-        ensures woken { MatchOption result
-            ((self.old.line.wakes ≡ []) × (self.new ≡ self.old))
-            (λ waker. self.old ≡ with_wakes (waker.0 ∷ self.new.line.wakes) self.new) }
-        ensures lawful { IsLawful self.new.line self.new.held }
-        ensures lock { IsLock 1 self.new }
+        ensures woken { TakesWake self.old result self.new }
+        ensures lawful { IsLawful self.new }
+        ensures whole { IsWhole 1 self.new }
     {
-        shares::take_wake(&mut self.semaphore)
+        self.semaphore.take_wake()
     }
 }
 
 impl LockRequest {
-    /// The number of its mutex (own).
+    /// The number of its mutex.
     pub fn of(&self) -> u64
         ensures { result ≡ self.now.of }
     {
@@ -148,10 +147,10 @@ impl LockRequest {
         ensures one { self.old.size ≡ 1 }
         ensures polls { Polls self.old waker.0 m.old result self.new m.new }
         ensures order { KeepsOrder m.old.line m.new.line }
-        ensures lawful { IsLawful m.new.line m.new.held }
-        ensures lock { IsLock 1 m.new }
+        ensures lawful { IsLawful m.new }
+        ensures whole { IsWhole 1 m.new }
     {
-        match shares::poll(&mut self.request, &mut m.semaphore, waker, steps)? {
+        match self.request.poll_once(&mut m.semaphore, waker, steps)? {
             Poll::Ready(permit) => Ok(Poll::Ready(LockGuard { permit })),
             Poll::Pending => Ok(Poll::Pending),
         }
@@ -164,14 +163,14 @@ impl LockRequest {
         ensures state { m.new ≡ cancelled self.stage m.old }
         ensures others { Leaves self.stage m.old m.new }
         ensures order { KeepsOrder m.old.line m.new.line }
-        ensures lawful { IsLawful m.new.line m.new.held }
-        ensures lock { IsLock 1 m.new }
+        ensures lawful { IsLawful m.new }
+        ensures whole { IsWhole 1 m.new }
     {
         let LockRequest { request } = self;
-        shares::cancel(request, &mut m.semaphore, steps);
+        request.cancel(&mut m.semaphore, steps);
     }
 
-    /// Ends the state and leaves what it stands for in the line, for a mutex that ends too (own).
+    /// Ends the state and leaves what it stands for in the line, for a mutex that ends too.
     pub fn lose(self) {
         let LockRequest { request } = self;
         request.lose();
@@ -179,7 +178,7 @@ impl LockRequest {
 }
 
 impl LockGuard {
-    /// The number of its mutex (own).
+    /// The number of its mutex.
     pub fn of(&self) -> u64
         ensures { result ≡ self.now.of }
     {
@@ -194,7 +193,7 @@ impl LockGuard {
         permit
     }
 
-    /// Ends the guard and leaves the mutex locked, for a mutex that ends too (own).
+    /// Ends the guard and leaves the mutex locked, for a mutex that ends too.
     pub fn lose(self) {
         let LockGuard { permit } = self;
         permit.lose();

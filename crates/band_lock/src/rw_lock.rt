@@ -1,12 +1,12 @@
 //! The reader-writer lock.
-ghost use Rattle.std.specs.Prelude.{◌≡◌, ◌+◌, ◌-◌, ◌<◌, ◌≤◌, ◌^◌, ◌↔◌, [], ◌∷◌, IsTrue, IsSome, IfSome, OnSome, IfNone, MatchOption};
-ghost use Rattle.band_balance.specs.Line.{open_line, is_served, take_permits, give_back};
-ghost use Rattle.band_sem.specs.declared.acquire.Stage.{Stage};
+ghost use Rattle.std.specs.Prelude.{◌≡◌, ◌-◌, ◌<◌, ◌≤◌, ◌^◌, ◌↔◌, IsTrue, IsSome, IfSome, OnSome, IfNone};
+ghost use Rattle.band_balance.specs.Line.{is_served};
 ghost use Rattle.band_sem.specs.Laws.{KeepsOrder, Leaves};
-ghost use Rattle.band_sem.specs.Semaphore.{IsLawful, IsOwn, Polls, cancelled, with_wakes};
-ghost use Rattle.band_lock.specs.Lock.{IsLock};
+ghost use Rattle.band_sem.specs.Permit.{new_permit};
+ghost use Rattle.band_sem.specs.Request.{new_request};
+ghost use Rattle.band_sem.specs.Semaphore.{IsLawful, IsOwn, Polls, taken, given_back, cancelled, TakesWake};
+ghost use Rattle.band_lock.specs.ReaderWriter.{new_lock, on_shares, IsWholeLock};
 
-use crate::shares;
 use band_base::{Poll, PollError, Steps, Waker};
 use band_sem::{Acquire, Semaphore, SemaphorePermit};
 use std::alloc::Global;
@@ -21,14 +21,13 @@ pub struct RwLockState {
 }
 
 impl Model for RwLockState {
-    ghost use Rattle.band_lock.specs.Lock.{IsLock};
-    ghost use Rattle.band_lock.specs.ReaderWriter.{ReaderWriter};
+    ghost use Rattle.band_lock.specs.ReaderWriter.{ReaderWriter, IsWholeLock};
 
     ghost Value = { ReaderWriter };
 
     ghost view = { λ l. record { max = l.max_readers; shares = l.semaphore } };
 
-    ghost invariant = { λ l. IsLock l.max_readers l.semaphore };
+    ghost invariant = { λ l. IsWholeLock (record { max = l.max_readers; shares = l.semaphore }) };
 }
 
 /// A request to read. It must be ended by `cancel` or `lose`. Ports the future of `read`.
@@ -101,8 +100,9 @@ const MAX_READERS: u64 = u64::MAX >> 1;
 impl RwLockState {
     /// A lock that nobody has, for as many readers as there can be, which tokens know by `number`.
     pub fn new(alloc: Global, number: u64) -> RwLockState
-        ensures start { result ≡ record { max = 2 ^ 63 - 1; shares = record { number = number; line = open_line (2 ^ 63 - 1); held = 0 } } }
-        ensures lock { IsLock result.max result.shares }
+        ensures start { result ≡ new_lock number (2 ^ 63 - 1) }
+        ensures lawful { IsLawful result.shares }
+        ensures whole { IsWholeLock result }
     {
         RwLockState::with_max_readers(alloc, number, MAX_READERS)
     }
@@ -110,8 +110,9 @@ impl RwLockState {
     /// The same for at most `max_readers` at a time.
     pub fn with_max_readers(alloc: Global, number: u64, max_readers: u64) -> RwLockState
         requires { 0 < max_readers }
-        ensures start { result ≡ record { max = max_readers; shares = record { number = number; line = open_line max_readers; held = 0 } } }
-        ensures lock { IsLock result.max result.shares }
+        ensures start { result ≡ new_lock number max_readers }
+        ensures lawful { IsLawful result.shares }
+        ensures whole { IsWholeLock result }
     {
         RwLockState {
             max_readers,
@@ -119,7 +120,7 @@ impl RwLockState {
         }
     }
 
-    /// The most readers at a time (own).
+    /// The most readers at a time.
     pub fn max_readers(&self) -> u64
         ensures max { result ≡ self.now.max }
         ensures some { 0 < result }
@@ -127,17 +128,17 @@ impl RwLockState {
         self.max_readers
     }
 
-    /// Its shares as a semaphore, for its figures (own).
+    /// Its shares as a semaphore, for its figures.
     pub fn semaphore(&self) -> &Semaphore
         ensures shares { result.now ≡ self.now.shares }
-        ensures lock { IsLock self.now.max self.now.shares }
+        ensures whole { IsWholeLock self.now }
     {
         &self.semaphore
     }
 
     /// A request to read, not polled yet.
     pub fn read(&self) -> ReadRequest
-        ensures { result ≡ record { of = self.now.shares.number; size = 1; stage = Stage.NotPolled } }
+        ensures { result ≡ new_request self.now.shares.number 1 }
     {
         ReadRequest {
             request: self.semaphore.acquire(1),
@@ -146,7 +147,7 @@ impl RwLockState {
 
     /// A request to write, not polled yet.
     pub fn write(&self) -> WriteRequest
-        ensures { result ≡ record { of = self.now.shares.number; size = self.now.max; stage = Stage.NotPolled } }
+        ensures { result ≡ new_request self.now.shares.number self.now.max }
     {
         WriteRequest {
             request: self.semaphore.acquire(self.max_readers),
@@ -156,26 +157,26 @@ impl RwLockState {
     /// Takes the right to read if there is one and nobody waits. It never joins the line.
     pub fn try_read(&mut self) -> Option<ReadAccess>
         ensures served { IsSome result ↔ IsTrue (is_served 1 self.old.shares.line) }
-        ensures access { IfSome result (λ access. access ≡ record { of = self.old.shares.number; count = 1 }) }
-        ensures some { OnSome result (self.new ≡ record self.old { shares = record self.old.shares { line = take_permits 1 self.old.shares.line; held = self.old.shares.held + 1 } }) }
+        ensures access { IfSome result (λ access. access ≡ new_permit self.old.shares.number 1) }
+        ensures some { OnSome result (self.new ≡ on_shares (taken 1) self.old) }
         ensures none { IfNone result (self.new ≡ self.old) }
-        ensures lawful { IsLawful self.new.shares.line self.new.shares.held }
-        ensures lock { IsLock self.new.max self.new.shares }
+        ensures lawful { IsLawful self.new.shares }
+        ensures whole { IsWholeLock self.new }
     {
-        let permit = shares::try_take(&mut self.semaphore, 1)?;
+        let permit = self.semaphore.try_acquire(1)?;
         Some(ReadAccess { permit })
     }
 
     /// Takes the right to write if nobody has the lock and nobody waits. It never joins the line.
     pub fn try_write(&mut self) -> Option<WriteAccess>
         ensures served { IsSome result ↔ IsTrue (is_served self.old.max self.old.shares.line) }
-        ensures access { IfSome result (λ access. access ≡ record { of = self.old.shares.number; count = self.old.max }) }
-        ensures some { OnSome result (self.new ≡ record self.old { shares = record self.old.shares { line = take_permits self.old.max self.old.shares.line; held = self.old.shares.held + self.old.max } }) }
+        ensures access { IfSome result (λ access. access ≡ new_permit self.old.shares.number self.old.max) }
+        ensures some { OnSome result (self.new ≡ on_shares (taken self.old.max) self.old) }
         ensures none { IfNone result (self.new ≡ self.old) }
-        ensures lawful { IsLawful self.new.shares.line self.new.shares.held }
-        ensures lock { IsLock self.new.max self.new.shares }
+        ensures lawful { IsLawful self.new.shares }
+        ensures whole { IsWholeLock self.new }
     {
-        let permit = shares::try_take(&mut self.semaphore, self.max_readers)?;
+        let permit = self.semaphore.try_acquire(self.max_readers)?;
         Some(WriteAccess { permit })
     }
 
@@ -184,56 +185,55 @@ impl RwLockState {
         requires number { a.of ≡ self.old.shares.number }
         requires held { a.count ≤ self.old.shares.held }
         ensures one { a.count ≡ 1 }
-        ensures state { self.new ≡ record self.old { shares = record self.old.shares { line = give_back 1 self.old.shares.line; held = self.old.shares.held - 1 } } }
+        ensures state { self.new ≡ on_shares (given_back 1) self.old }
         ensures order { KeepsOrder self.old.shares.line self.new.shares.line }
-        ensures lawful { IsLawful self.new.shares.line self.new.shares.held }
-        ensures lock { IsLock self.new.max self.new.shares }
+        ensures lawful { IsLawful self.new.shares }
+        ensures whole { IsWholeLock self.new }
     {
-        shares::give_back(&mut self.semaphore, a.into_permit(), steps);
+        self.semaphore.drop_permit(a.into_permit(), steps);
     }
 
     /// Gives the right to write back, which is all shares. Then the line settles.
     pub fn drop_write<L: Ledger>(&mut self, a: WriteAccess, steps: &mut Steps<L>)
         requires number { a.of ≡ self.old.shares.number }
         requires held { a.count ≤ self.old.shares.held }
-        ensures some { 0 < a.count }
-        ensures state { self.new ≡ record self.old { shares = record self.old.shares { line = give_back a.count self.old.shares.line; held = self.old.shares.held - a.count } } }
+        requires all { a.count ≡ self.old.max }
+        ensures state { self.new ≡ on_shares (given_back self.old.max) self.old }
         ensures order { KeepsOrder self.old.shares.line self.new.shares.line }
-        ensures lawful { IsLawful self.new.shares.line self.new.shares.held }
-        ensures lock { IsLock self.new.max self.new.shares }
+        ensures lawful { IsLawful self.new.shares }
+        ensures whole { IsWholeLock self.new }
     {
-        shares::give_back(&mut self.semaphore, a.into_permit(), steps);
+        self.semaphore.drop_permit(a.into_permit(), steps);
     }
 
     /// Makes the right to write one to read: all shares but one go back. Then the line settles.
     pub fn downgrade<L: Ledger>(&mut self, a: WriteAccess, steps: &mut Steps<L>) -> ReadAccess
         requires number { a.of ≡ self.old.shares.number }
         requires held { a.count ≤ self.old.shares.held }
-        ensures some { 0 < a.count }
-        ensures access { result ≡ record { of = a.of; count = 1 } }
-        ensures state { self.new ≡ record self.old { shares = record self.old.shares { line = give_back (a.count - 1) self.old.shares.line; held = self.old.shares.held - (a.count - 1) } } }
+        requires all { a.count ≡ self.old.max }
+        ensures access { result ≡ new_permit a.of 1 }
+        ensures state { self.new ≡ on_shares (given_back (self.old.max - 1)) self.old }
         ensures order { KeepsOrder self.old.shares.line self.new.shares.line }
-        ensures lawful { IsLawful self.new.shares.line self.new.shares.held }
-        ensures lock { IsLock self.new.max self.new.shares }
+        ensures lawful { IsLawful self.new.shares }
+        ensures whole { IsWholeLock self.new }
     {
-        let permit = shares::keep_one(&mut self.semaphore, a.into_permit(), steps);
+        let permit = self.semaphore.shrink(a.into_permit(), 1, steps);
         ReadAccess { permit }
     }
 
-    /// Takes the oldest waker to wake, if there is one (own).
+    /// Takes the oldest waker to wake, if there is one.
     pub fn take_wake(&mut self) -> Option<Waker>
-        ensures woken { MatchOption result
-            ((self.old.shares.line.wakes ≡ []) × (self.new ≡ self.old))
-            (λ waker. self.old ≡ record self.new { shares = with_wakes (waker.0 ∷ self.new.shares.line.wakes) self.new.shares }) }
-        ensures lawful { IsLawful self.new.shares.line self.new.shares.held }
-        ensures lock { IsLock self.new.max self.new.shares }
+        ensures woken { TakesWake self.old.shares result self.new.shares }
+        ensures max { self.new.max ≡ self.old.max }
+        ensures lawful { IsLawful self.new.shares }
+        ensures whole { IsWholeLock self.new }
     {
-        shares::take_wake(&mut self.semaphore)
+        self.semaphore.take_wake()
     }
 }
 
 impl ReadRequest {
-    /// The number of its lock (own).
+    /// The number of its lock.
     pub fn of(&self) -> u64
         ensures { result ≡ self.now.of }
     {
@@ -253,10 +253,10 @@ impl ReadRequest {
         ensures polls { Polls self.old waker.0 l.old.shares result self.new l.new.shares }
         ensures max { l.new.max ≡ l.old.max }
         ensures order { KeepsOrder l.old.shares.line l.new.shares.line }
-        ensures lawful { IsLawful l.new.shares.line l.new.shares.held }
-        ensures lock { IsLock l.new.max l.new.shares }
+        ensures lawful { IsLawful l.new.shares }
+        ensures whole { IsWholeLock l.new }
     {
-        match shares::poll(&mut self.request, &mut l.semaphore, waker, steps)? {
+        match self.request.poll_once(&mut l.semaphore, waker, steps)? {
             Poll::Ready(permit) => Ok(Poll::Ready(ReadAccess { permit })),
             Poll::Pending => Ok(Poll::Pending),
         }
@@ -266,17 +266,17 @@ impl ReadRequest {
     pub fn cancel<L: Ledger>(self, l: &mut RwLockState, steps: &mut Steps<L>)
         requires number { self.of ≡ l.old.shares.number }
         requires own { IsOwn self.stage self.size l.old.shares.line }
-        ensures state { l.new ≡ record l.old { shares = cancelled self.stage l.old.shares } }
+        ensures state { l.new ≡ on_shares (cancelled self.stage) l.old }
         ensures others { Leaves self.stage l.old.shares l.new.shares }
         ensures order { KeepsOrder l.old.shares.line l.new.shares.line }
-        ensures lawful { IsLawful l.new.shares.line l.new.shares.held }
-        ensures lock { IsLock l.new.max l.new.shares }
+        ensures lawful { IsLawful l.new.shares }
+        ensures whole { IsWholeLock l.new }
     {
         let ReadRequest { request } = self;
-        shares::cancel(request, &mut l.semaphore, steps);
+        request.cancel(&mut l.semaphore, steps);
     }
 
-    /// Ends the state and leaves what it stands for in the line, for a lock that ends too (own).
+    /// Ends the state and leaves what it stands for in the line, for a lock that ends too.
     pub fn lose(self) {
         let ReadRequest { request } = self;
         request.lose();
@@ -284,7 +284,7 @@ impl ReadRequest {
 }
 
 impl WriteRequest {
-    /// The number of its lock (own).
+    /// The number of its lock.
     pub fn of(&self) -> u64
         ensures { result ≡ self.now.of }
     {
@@ -300,14 +300,14 @@ impl WriteRequest {
     ) -> Result<Poll<WriteAccess>, PollError>
         requires number { self.old.of ≡ l.old.shares.number }
         requires own { IsOwn self.old.stage self.old.size l.old.shares.line }
-        ensures some { 0 < self.old.size }
+        requires all { self.old.size ≡ l.old.max }
         ensures polls { Polls self.old waker.0 l.old.shares result self.new l.new.shares }
         ensures max { l.new.max ≡ l.old.max }
         ensures order { KeepsOrder l.old.shares.line l.new.shares.line }
-        ensures lawful { IsLawful l.new.shares.line l.new.shares.held }
-        ensures lock { IsLock l.new.max l.new.shares }
+        ensures lawful { IsLawful l.new.shares }
+        ensures whole { IsWholeLock l.new }
     {
-        match shares::poll(&mut self.request, &mut l.semaphore, waker, steps)? {
+        match self.request.poll_once(&mut l.semaphore, waker, steps)? {
             Poll::Ready(permit) => Ok(Poll::Ready(WriteAccess { permit })),
             Poll::Pending => Ok(Poll::Pending),
         }
@@ -317,17 +317,17 @@ impl WriteRequest {
     pub fn cancel<L: Ledger>(self, l: &mut RwLockState, steps: &mut Steps<L>)
         requires number { self.of ≡ l.old.shares.number }
         requires own { IsOwn self.stage self.size l.old.shares.line }
-        ensures state { l.new ≡ record l.old { shares = cancelled self.stage l.old.shares } }
+        ensures state { l.new ≡ on_shares (cancelled self.stage) l.old }
         ensures others { Leaves self.stage l.old.shares l.new.shares }
         ensures order { KeepsOrder l.old.shares.line l.new.shares.line }
-        ensures lawful { IsLawful l.new.shares.line l.new.shares.held }
-        ensures lock { IsLock l.new.max l.new.shares }
+        ensures lawful { IsLawful l.new.shares }
+        ensures whole { IsWholeLock l.new }
     {
         let WriteRequest { request } = self;
-        shares::cancel(request, &mut l.semaphore, steps);
+        request.cancel(&mut l.semaphore, steps);
     }
 
-    /// Ends the state and leaves what it stands for in the line, for a lock that ends too (own).
+    /// Ends the state and leaves what it stands for in the line, for a lock that ends too.
     pub fn lose(self) {
         let WriteRequest { request } = self;
         request.lose();
@@ -335,7 +335,7 @@ impl WriteRequest {
 }
 
 impl ReadAccess {
-    /// The number of its lock (own).
+    /// The number of its lock.
     pub fn of(&self) -> u64
         ensures { result ≡ self.now.of }
     {
@@ -350,7 +350,7 @@ impl ReadAccess {
         permit
     }
 
-    /// Ends the token and leaves its share held, for a lock that ends too (own).
+    /// Ends the token and leaves its share held, for a lock that ends too.
     pub fn lose(self) {
         let ReadAccess { permit } = self;
         permit.lose();
@@ -358,7 +358,7 @@ impl ReadAccess {
 }
 
 impl WriteAccess {
-    /// The number of its lock (own).
+    /// The number of its lock.
     pub fn of(&self) -> u64
         ensures { result ≡ self.now.of }
     {
@@ -373,7 +373,7 @@ impl WriteAccess {
         permit
     }
 
-    /// Ends the token and leaves its shares held, for a lock that ends too (own).
+    /// Ends the token and leaves its shares held, for a lock that ends too.
     pub fn lose(self) {
         let WriteAccess { permit } = self;
         permit.lose();

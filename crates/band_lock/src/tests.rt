@@ -1,7 +1,7 @@
 //! What no clause says: that calls succeed, in small lives of a mutex and of a reader-writer lock.
 ghost use Rattle.std.specs.Prelude.{◌≡◌, ◌<◌, [], OnSome};
 ghost use Rattle.band_base.specs.declared.poll.Poll.TheVariants as poll;
-ghost use Rattle.band_lock.specs.Lock.{IsLock};
+ghost use Rattle.band_lock.specs.ReaderWriter.{IsWholeLock};
 
 use crate::{MutexState, RwLockState, WriteAccess};
 use band_base::{Poll, PollError, Steps, Waker};
@@ -217,8 +217,9 @@ fn writes<L: Ledger>(
     waker: Waker,
     steps: &mut Steps<L>,
 ) -> Option<WriteAccess>
-    ensures alone { OnSome result ((lock.new.shares.held ≡ lock.new.max) × (lock.new.shares.line.granted ≡ [])) }
-    ensures lock { IsLock lock.new.max lock.new.shares }
+    ensures held { OnSome result (lock.new.shares.held ≡ lock.new.max) }
+    ensures alone { OnSome result (lock.new.shares.line.granted ≡ []) }
+    ensures whole { IsWholeLock lock.new }
 {
     let mut request = lock.write();
     match request.poll_once(lock, waker, steps) {

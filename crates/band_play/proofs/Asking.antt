@@ -12,7 +12,7 @@ use Rattle.band_balance.proofs.Requests.{requests-join, entry_named-join_itself,
 use Rattle.band_balance.proofs.Settle.{total-append}
 use Rattle.band_sem.specs.Semaphore.{is_slot}
 use Rattle.band_play.specs.Objects.{IsSteady, ObjectState, Fits}
-use Rattle.band_sem.specs.declared.acquire.Stage.TheVariants.{Joined}
+use Rattle.band_sem.specs.Request.{Joined}
 use Rattle.band_play.specs.Thing.{Thing}
 use Rattle.band_play.specs.Thing as things
 use Rattle.band_play.specs.State.{State, Named, Tag, is_tag, tag}

@@ -12,14 +12,14 @@ use Rattle.band_base.specs.declared.poll.Poll.{Poll}
 use Rattle.band_base.specs.declared.poll.Poll.TheVariants as polls
 use Rattle.band_base.specs.declared.poll.PollError.{PollError}
 use Rattle.band_base.specs.declared.poll.PollError.TheVariants as errors
-use Rattle.band_sem.specs.Semaphore.{SemaphoreState, is_slot, FirstPoll, LaterPoll, PollsAt}
-use Rattle.band_play.specs.Objects.{IsSteady, ObjectState, RequestState, HoldingState, Fits, of_kind, shares_of, in_mode, asked_of, held_in, permit_in}
+use Rattle.band_sem.specs.Semaphore.{SemaphoreState, is_slot, given_back, FirstPoll, LaterPoll, PollsAt}
+use Rattle.band_play.specs.Objects.{IsSteady, ObjectState, RequestState, HoldingState, Fits, of_kind, shares_of, on_semaphore, in_mode, asked_of, held_in, permit_in}
 use Rattle.band_sem.specs.Request.{Request as Asked}
 use Rattle.band_sem.specs.Permit.{Permit as Held}
 use Rattle.band_sem.specs.declared.refusal.Refusal.{Refusal}
 use Rattle.band_sem.specs.declared.refusal.Refusal.TheVariants as refusals
-use Rattle.band_sem.specs.declared.acquire.Stage.{Stage}
-use Rattle.band_sem.specs.declared.acquire.Stage.TheVariants.{NotPolled, Joined, Finished}
+use Rattle.band_sem.specs.Request.{Stage}
+use Rattle.band_sem.specs.Request.{NotPolled, Joined, Finished}
 use Rattle.band_play.specs.declared.reply.Reply.{Reply}
 use Rattle.band_play.specs.declared.reply.Reply.TheVariants as replies
 use Rattle.band_play.specs.Thing.{Thing}
@@ -28,7 +28,7 @@ use Rattle.band_play.specs.Names.{Updated}
 use Rattle.band_play.specs.State.{State, Named, Tag, is_tag, tag, standing}
 use Rattle.band_play.specs.Step.{Outcome, reply_of, refused, after_turn, turn_of, turn_at, unless_taken, is_of, on_kind, with_object, on_object, calling, calling_for, asking, polling, dropping}
 use Rattle.band_play.specs.Table.{StandsUnder, Stands, IsKnown}
-use Rattle.band_play.specs.Moves.{FitsRequest, PollsAs, PollsRequest, PollsThing, AsksFirst, Becomes, IsAnswered, GivesIn, permit_answer, object_of, offers_at, offering, kind_at, given_back, cancelled_at, place_at, mode_of, size_for}
+use Rattle.band_play.specs.Moves.{FitsRequest, PollsAs, PollsRequest, PollsThing, AsksFirst, Becomes, IsAnswered, GivesIn, permit_answer, object_of, offers_at, offering, kind_at, cancelled_at, place_at, mode_of, size_for}
 use Rattle.band_play.specs.declared.object.Want.{Want}
 use Rattle.band_play.specs.declared.object.Want.TheVariants as wants
 use Rattle.band_play.specs.Kept.{wakes_of, OthersQuiet, DidWork}
@@ -475,7 +475,7 @@ module _ (names : ℕ → ℕ → Tag) (table : List ℕ → Option Thing) (sems
             at_sem refl)
 
     pub drop_permit : (table' : List ℕ → Option Thing) (sems' : List ObjectState) (name : List ℕ) (permit : HoldingState)
-        → table name ≡ Some (things.Holding permit) → Becomes permit.of sems sems' (given_back permit.count) → Updated table table' name None
+        → table name ≡ Some (things.Holding permit) → Becomes permit.of sems sems' (on_semaphore (given_back permit.count)) → Updated table table' name None
         → Matches (dropping (standing name state) name state) replies.Done table' permit.of sems'
     drop_permit table' sems' name permit is becomes update =
         dropped_known (known_at name (Some (things.Holding permit)) is)

@@ -8,7 +8,7 @@ use Rattle.band_balance.specs.Line.{Entry, Line, entry_named, rename, without}
 use Rattle.band_balance.specs.Object.{Object, Kind, Semaphore, Mutex, ReaderWriter, Permit, Done, Nothing, Turn, turn, hold, resize, split, split_of, merge, merge_of}
 use Rattle.band_balance.proofs.Requests.{entry_named-without_other}
 use Rattle.band_sem.specs.Semaphore.{IsLawful, SemaphoreState}
-use Rattle.band_play.specs.Objects.{ObjectState, IsSteady, IsLockOf, Fits}
+use Rattle.band_play.specs.Objects.{ObjectState, IsSteady, IsLockOf, Fits, shares_of}
 use Rattle.band_play.specs.Thing.{Thing}
 use Rattle.band_play.specs.Thing as things
 use Rattle.band_play.specs.Names.{Updated}
@@ -23,9 +23,10 @@ use Rattle.band_play.proofs.Resized.{without-resize}
 use Rattle.band_play.proofs.Turns.{TurnsTo, with_object, quieted, tags_apart}
 
 -- fewer that are held are as lawful
-pub lawful_fewer : (line : Line ℕ) (held fewer : ℕ) → fewer ≤ held → IsLawful line held → IsLawful line fewer
-lawful_fewer line held fewer less lawful = record {
+pub lawful_fewer : (state : SemaphoreState) (fewer : ℕ) → fewer ≤ state.held → IsLawful state → IsLawful (record state { held = fewer })
+lawful_fewer state fewer less lawful = record {
   one_each = lawful.one_each;
+  each_asks = lawful.each_asks;
   head_waits = lawful.head_waits;
   in_hand = omega (arith, lawful.in_hand);
   in_all = omega (arith, ints, lawful.in_all);
@@ -44,7 +45,7 @@ lock_of_any Mutex a old new fits is = absurd fits
 lock_of_any (ReaderWriter max) a old new fits is = absurd fits
 
 pub steady_fewer : (sem : ObjectState) (a fewer : ℕ) → Fits sem.kind Permit a → fewer ≤ sem.held → IsSteady sem → IsSteady (record sem { held = fewer })
-steady_fewer sem a fewer fits less steady = (lawful_fewer sem.line sem.held fewer less steady.0, lock_of_any sem.kind a _ _ fits steady.1)
+steady_fewer sem a fewer fits less steady = (lawful_fewer (shares_of sem) fewer less steady.0, lock_of_any sem.kind a _ _ fits steady.1)
 
 -- two names differ either way
 pub other_way : (m n : List ℕ) → bytes_eq m n ≡ false → bytes_eq n m ≡ false

@@ -1,6 +1,8 @@
 -- How far a script is played after a line, and after a piece.
 use Rattle.std.proofs.Common.{◌≡◌, ℕ, ◌+◌, Bool, true, List, [], ◌∷◌, ◌++◌, length, take, string_bytes, Option, Some, None, refl, sym, ap, subst, ◌∙◌, append_assoc, append-nil, length-append, arith}
-use Rattle.band_base.specs.Device.{Rose, Adds}
+use Rattle.std.specs.Io.KnownBytes.{Appends}
+use Rattle.std.proofs.KnownBytes.{Appends-trans}
+use Rattle.band_base.specs.Device.{AppendsPrefix, Rose}
 use Rattle.band_base.specs.declared.sink.SinkError.{SinkError}
 use Rattle.band_base.specs.declared.sink.SinkError.TheVariants as sinks
 use Rattle.band_play.specs.declared.call.Call.{Call}
@@ -11,10 +13,9 @@ use Rattle.band_play.specs.Faults.{fault_of}
 use Rattle.band_play.specs.Grammar.{call_of}
 use Rattle.band_play.specs.Player.{StandsFor}
 use Rattle.band_play.specs.Script.{Malformed, verdict_from, lines_of, rest_of, calls_of, transcript, state_from}
-use Rattle.band_play.specs.Play.{AddsFront}
 use Rattle.band_play.specs.Lines.{HasNoNewline, Tells, text_after}
 use Rattle.band_play.specs.Playing.{HasRun, HasPlayed, IsMalformedAt, RunsPiece, PlaysPiece, Stops, StopsInPiece}
-use Rattle.band_play.proofs.Devices.{adds_more, front_after}
+use Rattle.band_play.proofs.Devices.{front_after}
 use Rattle.band_play.proofs.HeldLemmas.{take_again}
 use Rattle.band_play.proofs.LineCuts.{lines_of-end, rest_of-end, lines_of-rest, rest_of-rest}
 use Rattle.band_play.proofs.LineRuns.{AreCalls, calls_with, are_calls-with, state_with, transcript_with, calls_until, verdict_until, transcript_more}
@@ -124,7 +125,7 @@ told_in (Some line) piece given front old new runs run =
     sym ((runs given front run).transcript_is []) ∙ ap (λ b. transcript (calls_of (lines_of b))) (append-nil (given ++ piece))
 
 -- the whole text of a piece was written
-pub piece_played : (piece : List ℕ) (old mid new : Playing) (x y : Option (List ℕ)) → RunsPiece None piece old mid → Adds (string_bytes mid.text) x y → new ≡ record mid { text = new.text } → string_bytes new.text ≡ [] → PlaysPiece piece old new x y
+pub piece_played : (piece : List ℕ) (old mid new : Playing) (x y : Option (List ℕ)) → RunsPiece None piece old mid → Appends x y (string_bytes mid.text) → new ≡ record mid { text = new.text } → string_bytes new.text ≡ [] → PlaysPiece piece old new x y
 piece_played piece old mid new x y runs adds others emptied given start q =
     let run = runs given q.front q.run in
     record {
@@ -136,21 +137,21 @@ piece_played piece old mid new x y runs adds others emptied given start q =
         text = ap (λ t. (q.front ++ string_bytes mid.text) ++ t) emptied ∙ append-nil (q.front ++ string_bytes mid.text) ∙ run.text;
         held = ap (λ p. p.held) others ∙ run.held;
       };
-      added = adds_more q.front (string_bytes mid.text) start x y q.added adds;
+      added = Appends-trans start x y q.front (string_bytes mid.text) q.added adds;
       emptied = emptied;
     }
 
-pub piece_malformed : (piece : List ℕ) (line : ℕ) (old mid : Playing) (x y : Option (List ℕ)) → RunsPiece (Some line) piece old mid → Adds (string_bytes mid.text) x y → (given : List ℕ) (start : Option (List ℕ)) → HasPlayed given old start x → (text : List ℕ) × IsMalformedAt (given ++ piece) line text × Adds text start y
+pub piece_malformed : (piece : List ℕ) (line : ℕ) (old mid : Playing) (x y : Option (List ℕ)) → RunsPiece (Some line) piece old mid → Appends x y (string_bytes mid.text) → (given : List ℕ) (start : Option (List ℕ)) → HasPlayed given old start x → (text : List ℕ) × IsMalformedAt (given ++ piece) line text × Appends start y text
 piece_malformed piece line old mid x y runs adds given start q =
-    (q.front ++ string_bytes mid.text, runs given q.front q.run, adds_more q.front (string_bytes mid.text) start x y q.added adds)
+    (q.front ++ string_bytes mid.text, runs given q.front q.run, Appends-trans start x y q.front (string_bytes mid.text) q.added adds)
 
 -- a front of it was written
-front_in_piece : (malformed : Option ℕ) (piece given : List ℕ) (old mid : Playing) (start x y : Option (List ℕ)) → RunsPiece malformed piece old mid → HasPlayed given old start x → AddsFront (string_bytes mid.text) x y → AddsFront (transcript (calls_of (lines_of (given ++ piece)))) start y
+front_in_piece : (malformed : Option ℕ) (piece given : List ℕ) (old mid : Playing) (start x y : Option (List ℕ)) → RunsPiece malformed piece old mid → HasPlayed given old start x → AppendsPrefix (string_bytes mid.text) x y → AppendsPrefix (transcript (calls_of (lines_of (given ++ piece)))) start y
 front_in_piece malformed piece given old mid start x y runs q adds =
-    let P : List ℕ → Type 0 = λ t. AddsFront t start y in
+    let P : List ℕ → Type 0 = λ t. AppendsPrefix t start y in
     subst P (told_in malformed piece given q.front old mid runs q.run) (front_after q.front (string_bytes mid.text) start x y q.added adds)
 
-pub piece_unwritten : (malformed : Option ℕ) (error : SinkError) (fault : PlayFault) (piece : List ℕ) (old mid : Playing) (x y : Option (List ℕ)) (before now : ℕ) → fault ≡ fault_of error → RunsPiece malformed piece old mid → AddsFront (string_bytes mid.text) x y → (error ≡ sinks.Failed → Rose before now) → StopsInPiece fault piece old x y before now
+pub piece_unwritten : (malformed : Option ℕ) (error : SinkError) (fault : PlayFault) (piece : List ℕ) (old mid : Playing) (x y : Option (List ℕ)) (before now : ℕ) → fault ≡ fault_of error → RunsPiece malformed piece old mid → AppendsPrefix (string_bytes mid.text) x y → (error ≡ sinks.Failed → Rose before now) → StopsInPiece fault piece old x y before now
 piece_unwritten malformed error fault piece old mid x y before now is runs adds rose given start q =
     let P : PlayFault → Type 0 = λ f. Stops f (given ++ piece) start y before now in
     subst P (sym is) (by_error error rose)
@@ -166,4 +167,4 @@ piece_unfinished fault piece old x before now is given start q =
     let later = transcript_more given piece q.run.each in
     let told : transcript (calls_of (lines_of given)) ≡ q.front = sym q.run.text ∙ ap (λ t. q.front ++ t) q.emptied ∙ append-nil q.front in
     let whole : q.front ++ later.0 ≡ transcript (calls_of (lines_of (given ++ piece))) = sym (later.1 ∙ ap (λ t. t ++ later.0) told) in
-    subst P (sym is) (record { front = q.front; rest = later.0; whole = whole; added = q.added })
+    subst P (sym is) (record { prefix = q.front; rest = later.0; whole = whole; appended = q.added })

@@ -12,8 +12,8 @@ use Rattle.band_balance.proofs.Requests.{requests-poll_waiting, requests-poll_gr
 use Rattle.band_balance.proofs.Settle.{total-append}
 use Rattle.band_sem.specs.Semaphore.{is_slot}
 use Rattle.band_play.specs.Objects.{IsSteady, ObjectState, RequestState, HoldingState, Fits}
-use Rattle.band_sem.specs.declared.acquire.Stage.{Stage}
-use Rattle.band_sem.specs.declared.acquire.Stage.TheVariants.{NotPolled, Joined, Finished}
+use Rattle.band_sem.specs.Request.{Stage}
+use Rattle.band_sem.specs.Request.{NotPolled, Joined, Finished}
 use Rattle.band_play.specs.Thing.{Thing}
 use Rattle.band_play.specs.Thing as things
 use Rattle.band_play.specs.State.{State, Named, Tag, is_tag, tag}

@@ -9,8 +9,8 @@ use Rattle.band_balance.proofs.Settle.{total-without}
 use Rattle.band_sem.specs.Semaphore.{IsOwn}
 use Rattle.band_balance.specs.Object.{Kind, Semaphore, Mutex, ReaderWriter, Mode, Permit, Lock, Read, Write}
 use Rattle.band_play.specs.Objects.{ObjectState, RequestState, HoldingState, Fits}
-use Rattle.band_sem.specs.declared.acquire.Stage.{Stage}
-use Rattle.band_sem.specs.declared.acquire.Stage.TheVariants.{NotPolled, Joined, Finished}
+use Rattle.band_sem.specs.Request.{Stage}
+use Rattle.band_sem.specs.Request.{NotPolled, Joined, Finished}
 use Rattle.band_play.specs.Thing.{Thing}
 use Rattle.band_play.specs.Thing as things
 use Rattle.band_play.specs.declared.table.Table.{Table}

@@ -1,30 +1,28 @@
 -- What an exit status says of the answer.
 use Rattle.std.proofs.Common.{◌≡◌, ◌≢◌, ℕ, ◌⊎◌, inl, inr, List, [], ◌∷◌, ◌++◌, Option, Some, None, Result, Err, refl, sym, subst, append-nil, arith}
-use Rattle.band_base.specs.Device.{Adds}
+use Rattle.std.specs.Io.KnownBytes.{Appends}
+use Rattle.std.proofs.KnownBytes.{Appends-nil}
+use Rattle.band_base.specs.Device.{AppendsPrefix}
 use Rattle.band_play.specs.declared.fault.PlayFault.{PlayFault}
 use Rattle.band_play.specs.declared.fault.PlayFault.TheVariants as faults
 use Rattle.band_play.specs.Script.{calls_within, transcript}
 use Rattle.band_play.specs.Text.{fault_text, usage_text}
-use Rattle.band_play.specs.Play.{AddsFront, WritesFront, Told, ToldText, ToldWith, status_of}
+use Rattle.band_play.specs.Play.{WritesFront, Told, ToldText, ToldWith, status_of}
 
 -- where nothing was given and nothing written
-adds_none : (written : Option (List ℕ)) → Adds [] written written
-adds_none None = tt
-adds_none (Some bytes) = sym (append-nil bytes)
-
 pub front_of_none : (limit : ℕ) (left written : Option (List ℕ)) → WritesFront limit left left written written
 front_of_none limit None written = tt
-front_of_none limit (Some bytes) written = ([], refl, record { front = []; rest = transcript (calls_within limit []); whole = refl; added = adds_none written })
+front_of_none limit (Some bytes) written = ([], refl, record { prefix = []; rest = transcript (calls_within limit []); whole = refl; appended = Appends-nil written })
 
 -- how the program is used, told with status 2, or a front of it where there was no memory
 pub told_usage : (status : ℕ) (text : List ℕ) (before after : Option (List ℕ)) (count count_now : ℕ) → text ≡ usage_text ++ 10 ∷ [] → (status ≡ 2) ⊎ (status ≡ 7)
-    → (status ≡ 2 → status ≢ 7 → ToldText text before after count count_now) → AddsFront text before after → ToldWith status before after count count_now
+    → (status ≡ 2 → status ≢ 7 → ToldText text before after count count_now) → AppendsPrefix text before after → ToldWith status before after count count_now
 told_usage status text before after count count_now is which told front = record {
   usage = λ two. subst (λ (t : List ℕ). ToldText t before after count count_now) is (told two (λ seven. absurd (omega (arith, two, seven))));
   too_long = λ four. absurd (other which four);
   read = λ five. absurd (other_five which five);
   write = λ six. absurd (other_six which six);
-  no_memory = λ seven. (usage_text, inl refl, subst (λ (t : List ℕ). AddsFront t before after) is front);
+  no_memory = λ seven. (usage_text, inl refl, subst (λ (t : List ℕ). AppendsPrefix t before after) is front);
 }
   where
     other : (status ≡ 2) ⊎ (status ≡ 7) → status ≡ 4 → ⊥

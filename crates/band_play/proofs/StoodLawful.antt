@@ -5,7 +5,7 @@ use Rattle.band_balance.specs.Line.{Entry, Waiting, Line, requests, total, u64_m
 use Rattle.band_balance.specs.Object.{Object, Kind, Semaphore, Mutex, ReaderWriter, Mode, Permit, Lock, Read, Write, size_of}
 use Rattle.band_balance.specs.Settled.{HeadWaits}
 use Rattle.band_balance.proofs.Rename.{requests-rename, total-renamed}
-use Rattle.band_lock.specs.Lock.{IsLock}
+use Rattle.band_sem.specs.Whole.{IsWhole}
 use Rattle.band_play.specs.Bounds.{IsWithin}
 use Rattle.band_play.specs.Exclusion.{ExclusiveAs, in_hand}
 use Rattle.band_play.specs.Lawful.{IsLawful, EachLawful}
@@ -18,7 +18,7 @@ use Rattle.band_play.specs.Step.{is_of}
 use Rattle.band_play.specs.Table.{StandsAt, StandsUnder, quiet, request_at, holding_at}
 use Rattle.band_play.specs.declared.player.Player.{Player}
 use Rattle.band_play.specs.Thing.{Thing}
-use Rattle.band_sem.specs.declared.acquire.Stage.TheVariants.{Joined}
+use Rattle.band_sem.specs.Request.{Joined}
 use Rattle.band_play.proofs.Change.{all_weaker}
 use Rattle.band_play.proofs.Excluding.{exclusive_as}
 use Rattle.band_play.proofs.Lists.{also_at}
@@ -97,13 +97,13 @@ module _ (names : ℕ → ℕ → Tag) (table : List ℕ → Option Thing) (sems
           let both = sized_as kind name.mode size lock (subst (λ k. Fits k name.mode size) is fits) in
           record { asked = both.0; size = both.1 }
 
-      shares : (count : ℕ) → IsLock count (shares_of sem) → ((mode : Mode) → 0 < size_of kind mode) → Shares kind count line held
+      shares : (count : ℕ) → IsWhole count (shares_of sem) → ((mode : Mode) → 0 < size_of kind mode) → Shares kind count line held
       shares count is_lock asks = record {
         asks = asks;
         unowed = is_lock.none_owed;
         sum =
             ap (λ n. sem.line.free +ℤ pos n) (ap₂ (λ a b. a + b) (total-renamed (names place) sem.line.granted) at.held)
-            ∙ is_lock.shares;
+            ∙ is_lock.adds_up;
         each_request =
             subst (AllByRecursion (IsSized kind)) (sym (requests-rename (names place) (quiet sem.line)))
             (all_mapped (IsSized kind) (renamed (names place)) (requests sem.line)
@@ -118,7 +118,7 @@ module _ (names : ℕ → ℕ → Tag) (table : List ℕ → Option Thing) (sems
     orderly Semaphore is = tt
     orderly Mutex is = shares Mutex is refl 1 (locked Mutex is) asks_mutex
     orderly (ReaderWriter max) is =
-        let is_lock : IsLock max (shares_of sem) = locked (ReaderWriter max) is in
+        let is_lock : IsWhole max (shares_of sem) = locked (ReaderWriter max) is in
         shares (ReaderWriter max) is refl max is_lock (asks_lock max is_lock.some)
 
     lawful : IsLawful named.object

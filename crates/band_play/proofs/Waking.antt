@@ -1,5 +1,5 @@
 -- A waker that is taken changes nothing else.
-use Rattle.std.proofs.Common.{◌≡◌, ℕ, ◌==◌, List, [], ◌∷◌, Option, Some, None, refl, sym, ap, ◌∙◌, subst}
+use Rattle.std.proofs.Common.{◌≡◌, ℕ, ◌==◌, List, [], ◌∷◌, Option, Some, None, refl, sym, ap, ap₂, ◌∙◌, subst}
 use Rattle.std.specs.List.{slice_get, slice_set}
 use Rattle.std.specs.Option.{MatchOption}
 use Rattle.std.proofs.lemmas.Bool.{false≢true, eqb-true}
@@ -9,9 +9,9 @@ use Rattle.std.proofs.lemmas.Option.{same_Some}
 use Rattle.band_balance.specs.Line.{Line, requests, entry_named}
 use Rattle.band_base.specs.declared.waker.Waker.{Waker}
 use Rattle.band_balance.specs.Object.{Kind, Semaphore, Mutex, ReaderWriter}
-use Rattle.band_sem.specs.Semaphore.{IsLawful, is_slot}
-use Rattle.band_lock.specs.Lock.{IsLock}
-use Rattle.band_play.specs.Objects.{ObjectState, IsSteady, IsLockOf, Fits, shares_of}
+use Rattle.band_sem.specs.Semaphore.{IsLawful, SemaphoreState, is_slot}
+use Rattle.band_sem.specs.Whole.{IsWhole}
+use Rattle.band_play.specs.Objects.{ObjectState, IsSteady, IsLockOf, Fits, TakesWakeOf, of_kind, shares_of}
 use Rattle.band_play.specs.Thing.{Thing}
 use Rattle.band_play.specs.Thing as things
 use Rattle.band_play.specs.State.{State, Named, Tag}
@@ -23,29 +23,26 @@ use Rattle.band_play.proofs.Lists.{by_bool, at_set_same, at_set_other}
 abbrev pub with_wakes : List ℕ → ObjectState → ObjectState
 with_wakes wakes object = record object { line = record object.line { wakes = wakes } }
 
--- what `take_wake` of an object says
-abbrev pub Takes : ObjectState → Option Waker → ObjectState → Type 0
-Takes old result new = MatchOption result ((old.line.wakes ≡ []) × (new ≡ old)) (λ waker. old ≡ with_wakes (waker.0 ∷ new.line.wakes) new)
-
 -- the one before is the one after with other wakes
-with_others : (old new : ObjectState) (result : Option Waker) → Takes old result new → (wakes : List ℕ) × (old ≡ with_wakes wakes new)
-with_others old new None (none, same) = (old.line.wakes, subst (λ (s : ObjectState). old ≡ with_wakes old.line.wakes s) (sym same) refl)
-with_others old new (Some waker) is = (waker.0 ∷ new.line.wakes, is)
+with_others : (old new : ObjectState) (result : Option Waker) → TakesWakeOf old result new → (wakes : List ℕ) × (old ≡ with_wakes wakes new)
+with_others old new None takes = (old.line.wakes, ap (with_wakes old.line.wakes) (sym (ap₂ of_kind takes.kind takes.woken.1)))
+with_others old new (Some waker) takes = (old.line.wakes, ap (with_wakes old.line.wakes) (sym (ap₂ of_kind takes.kind takes.woken.1)))
 
-same_line : (line : Line ℕ) (wakes : List ℕ) (held : ℕ) → IsLawful (record line { wakes = wakes }) held → IsLawful line held
-same_line line wakes held lawful = record {
+same_line : (wakes : List ℕ) (sem : ObjectState) → IsLawful (shares_of (with_wakes wakes sem)) → IsLawful (shares_of sem)
+same_line wakes sem lawful = record {
   one_each = lawful.one_each;
+  each_asks = lawful.each_asks;
   head_waits = lawful.head_waits;
   in_hand = lawful.in_hand;
   in_all = lawful.in_all;
   owed = lawful.owed;
 }
 
-same_lock : (max : ℕ) (wakes : List ℕ) (sem : ObjectState) → IsLock max (shares_of (with_wakes wakes sem)) → IsLock max (shares_of sem)
+same_lock : (max : ℕ) (wakes : List ℕ) (sem : ObjectState) → IsWhole max (shares_of (with_wakes wakes sem)) → IsWhole max (shares_of sem)
 same_lock max wakes sem is = record {
   some = is.some;
   none_owed = is.none_owed;
-  shares = is.shares;
+  adds_up = is.adds_up;
   each_asks = is.each_asks;
   at_most = is.at_most;
   granted_alone = is.granted_alone;
@@ -58,7 +55,7 @@ same_lock_of Mutex wakes sem is = same_lock 1 wakes sem is
 same_lock_of (ReaderWriter max) wakes sem is = same_lock max wakes sem is
 
 same_law : (wakes : List ℕ) (sem : ObjectState) → IsSteady (with_wakes wakes sem) → IsSteady sem
-same_law wakes sem steady = (same_line sem.line wakes sem.held steady.0, same_lock_of sem.kind wakes sem steady.1)
+same_law wakes sem steady = (same_line wakes sem steady.0, same_lock_of sem.kind wakes sem steady.1)
 
 same_stand : (table : List ℕ → Option Thing) (names : ℕ → Tag) (place : ℕ) (wakes : List ℕ) (sem : ObjectState) (named : Named) → StandsAt table names place (with_wakes wakes sem) named → StandsAt table names place sem named
 same_stand table names place wakes sem named at = record {
@@ -74,7 +71,7 @@ same_stand table names place wakes sem named at = record {
 }
 
 module _ (names : ℕ → ℕ → Tag) (table : List ℕ → Option Thing) (sems : List ObjectState) (state : State) (place : ℕ) (old new : ObjectState) (result : Option Waker)
-    (stands : StandsUnder names table sems state) (at_sem : slice_get sems place ≡ Some old) (takes : Takes old result new) where
+    (stands : StandsUnder names table sems state) (at_sem : slice_get sems place ≡ Some old) (takes : TakesWakeOf old result new) where
   by_place : {P : Type 0} (j : ℕ) → (j ≡ place → P) → ((j ≡ place → ⊥) → P) → P
   by_place j f g = by_bool (j == place) (λ e. f (eqb-true j place e)) (λ e. g (λ same. false≢true (sym e ∙ (Decides-eqb j place).1 same)))
 
@@ -118,6 +115,6 @@ pub others_woken : (sems : List ObjectState) (place : ℕ) (new : ObjectState) �
 others_woken sems place new others j s apart there = others j s apart (sym (at_set_other sems place j new apart) ∙ there)
 
 -- the wakers left before and after
-pub wakes_taken : (old new : ObjectState) (result : Option Waker) → Takes old result new → MatchOption result ((old.line.wakes ≡ []) × (new.line.wakes ≡ [])) (λ waker. old.line.wakes ≡ waker.0 ∷ new.line.wakes)
-wakes_taken old new None (none, same) = (none, ap (λ (s : ObjectState). s.line.wakes) same ∙ none)
-wakes_taken old new (Some waker) is = ap (λ (s : ObjectState). s.line.wakes) is
+pub wakes_taken : (old new : ObjectState) (result : Option Waker) → TakesWakeOf old result new → MatchOption result ((old.line.wakes ≡ []) × (new.line.wakes ≡ [])) (λ waker. old.line.wakes ≡ waker.0 ∷ new.line.wakes)
+wakes_taken old new None takes = (takes.woken.0, ap (λ (s : SemaphoreState). s.line.wakes) takes.woken.1 ∙ takes.woken.0)
+wakes_taken old new (Some waker) takes = takes.woken.0

@@ -7,13 +7,13 @@ use Rattle.band_base.specs.declared.poll.Poll.TheVariants as polls
 use Rattle.band_base.specs.declared.poll.PollError.{PollError}
 use Rattle.band_sem.specs.declared.refusal.Refusal.{Refusal}
 use Rattle.band_sem.specs.declared.refusal.Refusal.TheVariants.{Unknown, Kind, Same, Finished, Other}
-use Rattle.band_sem.specs.declared.acquire.Stage.{Stage}
-use Rattle.band_sem.specs.declared.acquire.Stage.TheVariants as stages
-use Rattle.band_sem.specs.Semaphore.{IsOwn, Polls, cancelled}
+use Rattle.band_sem.specs.Request.{Stage}
+use Rattle.band_sem.specs.Request as stages
+use Rattle.band_sem.specs.Semaphore.{IsOwn, Polls, given_back, cancelled}
 use Rattle.band_sem.specs.Permit.{Permit as Held}
 use Rattle.band_balance.specs.Object.{Mode, Permit, Lock, Read, Write, size_of}
 use Rattle.band_balance.specs.Object as object
-use Rattle.band_play.specs.Objects.{ObjectState, RequestState, HoldingState, of_kind, shares_of, asked_of, permit_in, IsSteady, Fits}
+use Rattle.band_play.specs.Objects.{ObjectState, RequestState, HoldingState, of_kind, shares_of, on_semaphore, asked_of, permit_in, IsSteady, Fits}
 use Rattle.band_play.specs.Step.{is_of, same_mode}
 use Rattle.band_play.specs.State.{Tag}
 use Rattle.band_play.specs.declared.object.New.{New}
@@ -99,17 +99,13 @@ pub record Becomes (place : ℕ) (old new : List ObjectState) (step : ObjectStat
   pub set : new ≡ slice_set old place (step before)
   pub lawful : IsSteady (step before)
 
--- what was held goes back
-abbrev pub given_back : ℕ → ObjectState → ObjectState
-given_back count sem = record sem { line = give_back count sem.line; held = sem.held - count }
-
 -- a request is cancelled
 abbrev pub cancelled_at : Stage → ObjectState → ObjectState
-cancelled_at stage sem = of_kind sem.kind (cancelled stage (shares_of sem))
+cancelled_at stage sem = on_semaphore (cancelled stage) sem
 
 abbrev pub DropsThing : Thing → List ObjectState → List ObjectState → Type 0
 DropsThing (things.Object place) old new = new ≡ old
-DropsThing (things.Holding holding) old new = Becomes holding.of old new (given_back holding.count)
+DropsThing (things.Holding holding) old new = Becomes holding.of old new (on_semaphore (given_back holding.count))
 DropsThing (things.Request place request) old new = Becomes place old new (cancelled_at request.stage)
 
 abbrev pub kind_at : Option ObjectState → Option object.Kind

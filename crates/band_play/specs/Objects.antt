@@ -1,12 +1,13 @@
 -- What the player has at a place, and what its tokens are: each with the kind of its object, or with the mode of what it asks for.
-use Rattle.std.specs.Prelude.{◌≡◌, ℕ}
+use Rattle.std.specs.Prelude.{◌≡◌, ℕ, Option}
 use Rattle.band_balance.specs.Line.{Line}
 use Rattle.band_balance.specs.Object.{Kind, Semaphore, Mutex, ReaderWriter, Mode, Permit, Lock, Read, Write}
-use Rattle.band_sem.specs.Semaphore.{SemaphoreState, IsLawful}
+use Rattle.band_base.specs.declared.waker.Waker.{Waker}
+use Rattle.band_sem.specs.Semaphore.{SemaphoreState, IsLawful, TakesWake}
 use Rattle.band_sem.specs.Permit.{Permit as Held}
 use Rattle.band_sem.specs.Request.{Request as Asked}
-use Rattle.band_sem.specs.declared.acquire.Stage.{Stage}
-use Rattle.band_lock.specs.Lock.{IsLock}
+use Rattle.band_sem.specs.Request.{Stage}
+use Rattle.band_sem.specs.Whole.{IsWhole}
 use Rattle.band_play.specs.declared.object.Primitive.{Primitive}
 use Rattle.band_play.specs.declared.object.Primitive.TheVariants as objects
 use Rattle.band_play.specs.declared.request.AnyRequest.{AnyRequest}
@@ -33,6 +34,15 @@ state_of (objects.ReaderWriter lock) = of_kind (ReaderWriter lock.max) lock.shar
 -- the figures alone
 abbrev pub shares_of : ObjectState → SemaphoreState
 shares_of object = record { number = object.number; line = object.line; held = object.held }
+
+-- what a semaphore would become, with the kind that it has
+abbrev pub on_semaphore : (SemaphoreState → SemaphoreState) → ObjectState → ObjectState
+on_semaphore change object = of_kind object.kind (change (shares_of object))
+
+-- the oldest waker to wake of its line, if there is one, is taken
+pub record TakesWakeOf (old : ObjectState) (result : Option Waker) (new : ObjectState) : Type 0 where
+  pub woken : TakesWake (shares_of old) result (shares_of new)
+  pub kind : new.kind ≡ old.kind
 
 -- a request with its mode
 pub record RequestState : Type 0 where
@@ -74,12 +84,12 @@ permit_in holding = record { of = holding.of; count = holding.count }
 -- a lock stays a lock
 abbrev pub IsLockOf : Kind → SemaphoreState → Type 0
 IsLockOf Semaphore sem = Unit {0}
-IsLockOf Mutex sem = IsLock 1 sem
-IsLockOf (ReaderWriter max) sem = IsLock max sem
+IsLockOf Mutex sem = IsWhole 1 sem
+IsLockOf (ReaderWriter max) sem = IsWhole max sem
 
 -- what holds of an object between any two calls
 abbrev pub IsSteady : ObjectState → Type 0
-IsSteady object = IsLawful object.line object.held × IsLockOf object.kind (shares_of object)
+IsSteady object = IsLawful (shares_of object) × IsLockOf object.kind (shares_of object)
 
 -- a request or a holding of this mode and size is of an object of this kind
 abbrev pub Fits : Kind → Mode → ℕ → Type 0

@@ -1,25 +1,19 @@
 -- What playing a script promises, answer by answer.
 use Rattle.std.specs.Prelude.{◌≡◌, ℕ, ◌≤◌, ◌⊎◌, List, [], ◌∷◌, ◌++◌, length, Option, Some, None, IsSome, Result, Ok, Err}
 use Rattle.std.specs.List.{AllByRecursion}
-use Rattle.band_base.specs.Device.{Adds, Rose}
+use Rattle.std.specs.Io.KnownBytes.{Appends}
+use Rattle.band_base.specs.Device.{AppendsPrefix, Rose}
 use Rattle.band_play.specs.Text.{fault_text, usage_text}
 use Rattle.band_play.specs.declared.fault.PlayFault.{PlayFault}
 use Rattle.band_play.specs.declared.fault.PlayFault.TheVariants as faults
 use Rattle.band_play.specs.Grammar.{call_of}
 use Rattle.band_play.specs.Script.{Verdict, Good, Malformed, TooLong, verdict, lines_of, calls_of, calls_within, transcript}
 
--- a front of this text was added at the end of what was written, where that is told
-pub record AddsFront (text : List ℕ) (before after : Option (List ℕ)) : Type 0 where
-  pub front : List ℕ
-  pub rest : List ℕ
-  pub whole : front ++ rest ≡ text
-  pub added : Adds front before after
-
 -- where the source told its bytes: this is their outcome, and exactly the transcript of their calls was written
 abbrev pub Comes : Verdict → ℕ → Option (List ℕ) → Option (List ℕ) → Option (List ℕ) → Type 0
 Comes outcome limit None before after = Unit {0}
 Comes outcome limit (Some bytes) before after =
-    (verdict limit bytes ≡ outcome) × Adds (transcript (calls_within limit bytes)) before after
+    (verdict limit bytes ≡ outcome) × Appends before after (transcript (calls_within limit bytes))
 
 -- where the source told its bytes: none is left
 abbrev pub AllRead : Option (List ℕ) → Option (List ℕ) → Type 0
@@ -42,7 +36,7 @@ TakesJust n (Some bytes) (Some left) = (given : List ℕ) × (bytes ≡ given ++
 pub record PlaysGiven (limit : ℕ) (given : List ℕ) (before after : Option (List ℕ)) : Type 0 where
   pub within : length given ≤ limit
   pub each : AllByRecursion (λ line. IsSome (call_of line)) (lines_of given)
-  pub added : Adds (transcript (calls_of (lines_of given))) before after
+  pub added : Appends before after (transcript (calls_of (lines_of given)))
 
 -- where the source told its bytes: it failed after it gave some, and those were played
 abbrev pub StopsEarly : ℕ → Option (List ℕ) → Option (List ℕ) → Option (List ℕ) → Option (List ℕ) → Type 0
@@ -56,11 +50,11 @@ abbrev pub WritesFront : ℕ → Option (List ℕ) → Option (List ℕ) → Opt
 WritesFront limit None left before after = Unit {0}
 WritesFront limit (Some bytes) None before after = ⊥
 WritesFront limit (Some bytes) (Some left) before after =
-    (given : List ℕ) × (bytes ≡ given ++ left) × AddsFront (transcript (calls_within limit given)) before after
+    (given : List ℕ) × (bytes ≡ given ++ left) × AppendsPrefix (transcript (calls_within limit given)) before after
 
 -- what was written begins with this text
 abbrev pub BeginsWith : List ℕ → Option (List ℕ) → Option (List ℕ) → Type 0
-BeginsWith text before after = (rest : List ℕ) × Adds (text ++ rest) before after
+BeginsWith text before after = (rest : List ℕ) × Appends before after (text ++ rest)
 
 -- but for at most 4096 bytes at its end, what was given stands within the limit, each of its ended lines stands for a call, and
 -- it was answered
@@ -114,7 +108,7 @@ CompletesAs limit (Some bytes) status = (status ≡ status_of (answer_of (verdic
 
 -- a text was told: all of it, or a front of it and the sink failed
 abbrev pub ToldText : List ℕ → Option (List ℕ) → Option (List ℕ) → ℕ → ℕ → Type 0
-ToldText text before after faults faults_now = Adds text before after ⊎ (AddsFront text before after × Rose faults faults_now)
+ToldText text before after faults faults_now = Appends before after text ⊎ (AppendsPrefix text before after × Rose faults faults_now)
 
 -- the same of a line
 abbrev pub Told : List ℕ → Option (List ℕ) → Option (List ℕ) → ℕ → ℕ → Type 0
@@ -126,7 +120,7 @@ IsTold line = (line ≡ usage_text) ⊎ ((fault : PlayFault) × (line ≡ fault_
 
 -- where there was no memory: a front of one of them was told, if only an empty one
 abbrev pub ToldFront : Option (List ℕ) → Option (List ℕ) → Type 0
-ToldFront before after = (line : List ℕ) × IsTold line × AddsFront (line ++ 10 ∷ []) before after
+ToldFront before after = (line : List ℕ) × IsTold line × AppendsPrefix (line ++ 10 ∷ []) before after
 
 -- what is told with each status but 0 and 3
 pub record ToldWith (status : ℕ) (before after : Option (List ℕ)) (count count_now : ℕ) : Type 0 where

@@ -1,14 +1,14 @@
 -- How far a script is played.
 use Rattle.std.specs.Prelude.{◌≡◌, ℕ, Bool, List, [], ◌++◌, length, take, string_bytes, Option, Some, None, IsSome}
 use Rattle.std.specs.List.{AllByRecursion}
-use Rattle.band_base.specs.Device.{Rose, Adds}
+use Rattle.std.specs.Io.KnownBytes.{Appends}
+use Rattle.band_base.specs.Device.{AppendsPrefix, Rose}
 use Rattle.band_play.specs.declared.fault.PlayFault.{PlayFault}
 use Rattle.band_play.specs.declared.fault.PlayFault.TheVariants as faults
 use Rattle.band_play.specs.declared.playing.Playing.{Playing}
 use Rattle.band_play.specs.Grammar.{call_of}
 use Rattle.band_play.specs.Player.{StandsFor}
 use Rattle.band_play.specs.Script.{Malformed, verdict_from, lines_of, rest_of, calls_of, transcript, state_from}
-use Rattle.band_play.specs.Play.{AddsFront}
 
 -- the ended lines of these bytes are run, each stands for a call, and their text is `front` and what is not written yet
 pub record HasRun (given front : List ℕ) (playing : Playing) : Type 0 where
@@ -22,7 +22,7 @@ pub record HasRun (given front : List ℕ) (playing : Playing) : Type 0 where
 pub record HasPlayed (given : List ℕ) (playing : Playing) (start now : Option (List ℕ)) : Type 0 where
   pub front : List ℕ
   pub run : HasRun given front playing
-  pub added : Adds front start now
+  pub added : Appends start now front
   pub emptied : string_bytes playing.text ≡ []
 
 -- whatever comes after these bytes, this line is the first that stands for no call, and this is the text of those before it
@@ -44,11 +44,11 @@ PlaysPiece piece old new before after =
 
 -- why the lines of these bytes were not all played
 abbrev pub Stops : PlayFault → List ℕ → Option (List ℕ) → Option (List ℕ) → ℕ → ℕ → Type 0
-Stops (faults.Malformed line) bytes start now old new = (text : List ℕ) × IsMalformedAt bytes line text × Adds text start now
+Stops (faults.Malformed line) bytes start now old new = (text : List ℕ) × IsMalformedAt bytes line text × Appends start now text
 Stops faults.TooLong bytes start now old new = ⊥
 Stops faults.Read bytes start now old new = ⊥
-Stops faults.Write bytes start now old new = AddsFront (transcript (calls_of (lines_of bytes))) start now × Rose old new
-Stops faults.NoMemory bytes start now old new = AddsFront (transcript (calls_of (lines_of bytes))) start now
+Stops faults.Write bytes start now old new = AppendsPrefix (transcript (calls_of (lines_of bytes))) start now × Rose old new
+Stops faults.NoMemory bytes start now old new = AppendsPrefix (transcript (calls_of (lines_of bytes))) start now
 
 -- why the lines that end in a piece were not all played
 abbrev pub StopsInPiece : PlayFault → List ℕ → Playing → Option (List ℕ) → Option (List ℕ) → ℕ → ℕ → Type 0
@@ -57,4 +57,4 @@ StopsInPiece fault piece playing before after old new =
 
 -- some text was added at the end of what was written
 abbrev pub AddsSome : Option (List ℕ) → Option (List ℕ) → Type 0
-AddsSome before after = (text : List ℕ) × Adds text before after
+AddsSome before after = (text : List ℕ) × Appends before after text

@@ -6,7 +6,7 @@ use Rattle.band_balance.specs.Line.{Entry, Line, requests, total, entry_named, r
 use Rattle.band_balance.specs.Object.{Mode}
 use Rattle.band_sem.specs.Semaphore.{is_slot}
 use Rattle.band_play.specs.Objects.{ObjectState, IsSteady, Fits}
-use Rattle.band_sem.specs.declared.acquire.Stage.TheVariants.{Joined}
+use Rattle.band_sem.specs.Request.{Joined}
 use Rattle.band_play.specs.Thing.{Thing}
 use Rattle.band_play.specs.Thing as things
 use Rattle.band_play.specs.State.{State, Named, Tag, is_tag, tag}

@@ -1,6 +1,6 @@
 -- What a token stands for.
 use Rattle.band_balance.specs.Object.{Permit, Lock, Read, Write}
-use Rattle.band_sem.specs.declared.acquire.Stage.TheVariants.{Finished}
+use Rattle.band_sem.specs.Request.{Finished}
 use Rattle.band_play.specs.Objects.{RequestState, HoldingState, in_mode, held_in}
 use Rattle.band_play.specs.Thing.{Thing}
 use Rattle.band_play.specs.Thing as things

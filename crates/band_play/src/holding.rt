@@ -43,9 +43,9 @@ fn add_permit(permit: &mut SemaphorePermit, more: SemaphorePermit)
 
 impl Holding {
     ghost use Rattle.std.specs.Prelude.{◌≡◌, ◌+◌, ◌-◌, ◌<◌, ◌≤◌, ◌↔◌, IsNone, IfSome, IfNone};
-    ghost use Rattle.band_balance.specs.Line.{give_back};
     ghost use Rattle.band_balance.specs.Object.{Permit, Read, Write};
-    ghost use Rattle.band_play.specs.Objects.{IsSteady, Fits};
+    ghost use Rattle.band_sem.specs.Semaphore.{given_back, forgotten};
+    ghost use Rattle.band_play.specs.Objects.{on_semaphore, IsSteady, Fits};
     ghost use Rattle.band_play.specs.Moves.{downgraded};
 
     /// Gives it back.
@@ -53,7 +53,7 @@ impl Holding {
         requires number { self.of ≡ object.old.number }
         requires held { self.count ≤ object.old.held }
         requires fits { Fits object.old.kind self.mode self.count }
-        ensures state { object.new ≡ record object.old { line = give_back self.count object.old.line; held = object.old.held - self.count } }
+        ensures state { object.new ≡ on_semaphore (given_back self.count) object.old }
         ensures steady { IsSteady object.new }
     {
         let Holding { any } = self;
@@ -90,7 +90,7 @@ impl Holding {
         requires number { self.of ≡ object.old.number }
         requires held { self.count ≤ object.old.held }
         requires fits { Fits object.old.kind self.mode self.count }
-        ensures state { object.new ≡ record object.old { held = object.old.held - self.count } }
+        ensures state { object.new ≡ on_semaphore (forgotten self.count) object.old }
         ensures steady { IsSteady object.new }
     {
         let Holding { any } = self;

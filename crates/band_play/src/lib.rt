@@ -13,7 +13,6 @@ mod name;
 mod names;
 mod number;
 mod object;
-mod outlet;
 mod player;
 mod playing;
 mod print;

@@ -7,6 +7,7 @@ ghost use Rattle.band_play.specs.Lines.{HasNoNewline, Tells};
 use crate::print::{push_reply, push_wake};
 use crate::{Call, Player};
 use band_base::Steps;
+use memchr::memchr;
 use std::alloc::AllocError;
 use std::sync::ledger::Ledger;
 
@@ -16,7 +17,7 @@ pub(crate) fn split_line(bytes: &[u8]) -> Option<(&[u8], &[u8])>
         (HasNoNewline bytes.now)
         (λ parts. (bytes.now ≡ parts.0.now ++ 10 ∷ parts.1.now) × HasNoNewline parts.0.now) }
 {
-    let newline = bytes.iter().position(|byte| *byte == b'\n')?;
+    let newline = memchr(b'\n', bytes)?;
     Some((&bytes[..newline], &bytes[newline + 1..]))
 }
 

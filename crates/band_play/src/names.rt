@@ -22,9 +22,10 @@ pub(crate) struct Names {
 
 impl Names {
     ghost use Rattle.std.specs.Prelude.{◌≡◌, ℕ, ◌+◌, ◌-◌, ◌<◌, ◌≤◌, ◌↔◌, List, length, None, Some, Ok, Err, IsSome, IfSome, IfOk, OnOk, OnErr, IsOk, IsTrue, IfNone, MatchResult, false, option_map};
-    ghost use Rattle.band_balance.specs.Line.{is_served, take_permits};
+    ghost use Rattle.band_balance.specs.Line.{is_served};
     ghost use Rattle.band_balance.specs.Object.{Mode, Permit, Write};
-    ghost use Rattle.band_play.specs.Objects.{IsSteady};
+    ghost use Rattle.band_sem.specs.Semaphore.{taken};
+    ghost use Rattle.band_play.specs.Objects.{on_semaphore, IsSteady};
     ghost use Rattle.band_play.specs.Step.{is_of};
     ghost use Rattle.band_play.specs.Thing.{Thing};
     ghost use Rattle.band_play.specs.Thing as things;
@@ -151,7 +152,7 @@ impl Names {
         requires offered { IsTrue (is_of object.old.kind (mode_of want)) }
         requires served { IsTrue (is_served (size_for want object.old.kind) object.old.line) }
         ensures ok { OnOk result (Updated (thing_at self.old) (thing_at self.new) name (Some (things.Holding (record { mode = mode_of want; of = object.old.number; count = size_for want object.old.kind })))) }
-        ensures taken { OnOk result (object.new ≡ record object.old { line = take_permits (size_for want object.old.kind) object.old.line; held = object.old.held + size_for want object.old.kind }) }
+        ensures taken { OnOk result (object.new ≡ on_semaphore (taken (size_for want object.old.kind)) object.old) }
         ensures steady { OnOk result (IsSteady object.new) }
         ensures err { OnErr result (AreSame self.old self.new × (object.new ≡ object.old)) }
     {

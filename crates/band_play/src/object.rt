@@ -52,19 +52,20 @@ impl Model for Object {
 }
 
 impl Object {
-    ghost use Rattle.std.specs.Prelude.{◌≡◌, ◌+◌, ◌<◌, ◌↔◌, [], ◌∷◌, IsTrue, IsSome, IfSome, OnSome, IfNone, IsErrOf, OnOk, OnErr, MatchOption};
-    ghost use Rattle.band_balance.specs.Line.{open_line, drained, overflows, owes_too_much, is_served, take_permits, give_back};
+    ghost use Rattle.std.specs.Prelude.{◌≡◌, ◌<◌, ◌↔◌, IsTrue, IsSome, IfSome, OnSome, IfNone, IsErrOf, OnOk, OnErr};
+    ghost use Rattle.band_balance.specs.Line.{drained, overflows, owes_too_much, is_served};
     ghost use Rattle.band_balance.specs.Object.{Permit};
     ghost use Rattle.band_balance.specs.Object as kinds;
-    ghost use Rattle.band_sem.specs.declared.acquire.Stage.{Stage};
-    ghost use Rattle.band_play.specs.Objects.{shares_of, IsSteady};
+    ghost use Rattle.band_sem.specs.Request.{new_request};
+    ghost use Rattle.band_sem.specs.Semaphore.{new_state, taken, released, reduced};
+    ghost use Rattle.band_play.specs.Objects.{of_kind, shares_of, on_semaphore, in_mode, IsSteady, TakesWakeOf};
     ghost use Rattle.band_play.specs.Moves.{mode_of, size_for, kind_made, count_made, IsForReaders};
     ghost use Rattle.band_play.specs.Step.{is_of};
 
     /// A new object with this number.
     pub(crate) fn new(alloc: Global, number: u64, new: New) -> Object
         requires { IsForReaders new }
-        ensures start { result ≡ record { kind = kind_made new; number = number; line = open_line (count_made new); held = 0 } }
+        ensures start { result ≡ of_kind (kind_made new) (new_state number (count_made new)) }
         ensures steady { IsSteady result }
     {
         match new {
@@ -75,7 +76,7 @@ impl Object {
     }
 
     fn new_semaphore(alloc: Global, number: u64, n: u64) -> Object
-        ensures start { result ≡ record { kind = kinds.Semaphore; number = number; line = open_line n; held = 0 } }
+        ensures start { result ≡ of_kind kinds.Semaphore (new_state number n) }
         ensures steady { IsSteady result }
     {
         let primitive = Primitive::Semaphore(Semaphore::new(alloc, number, n));
@@ -83,7 +84,7 @@ impl Object {
     }
 
     fn new_mutex(alloc: Global, number: u64) -> Object
-        ensures start { result ≡ record { kind = kinds.Mutex; number = number; line = open_line 1; held = 0 } }
+        ensures start { result ≡ of_kind kinds.Mutex (new_state number 1) }
         ensures steady { IsSteady result }
     {
         let primitive = Primitive::Mutex(MutexState::new(alloc, number));
@@ -92,7 +93,7 @@ impl Object {
 
     fn new_reader_writer(alloc: Global, number: u64, max: u64) -> Object
         requires { 0 < max }
-        ensures start { result ≡ record { kind = kinds.ReaderWriter max; number = number; line = open_line max; held = 0 } }
+        ensures start { result ≡ of_kind (kinds.ReaderWriter max) (new_state number max) }
         ensures steady { IsSteady result }
     {
         let lock = RwLockState::with_max_readers(alloc, number, max);
@@ -126,7 +127,7 @@ impl Object {
     /// A request for what it offers, not polled yet.
     pub(crate) fn request(&self, want: Want) -> Request
         requires { IsTrue (is_of self.now.kind (mode_of want)) }
-        ensures { result ≡ record { mode = mode_of want; of = self.now.number; size = size_for want self.now.kind; stage = Stage.NotPolled } }
+        ensures { result ≡ in_mode (mode_of want) (new_request self.now.number (size_for want self.now.kind)) }
     {
         let any = match (&self.primitive, want) {
             (Primitive::Semaphore(semaphore), Want::Permits(n)) => {
@@ -163,7 +164,7 @@ impl Object {
         requires { IsTrue (is_of self.old.kind (mode_of want)) }
         ensures served { IsSome result ↔ IsTrue (is_served (size_for want self.old.kind) self.old.line) }
         ensures holding { IfSome result (λ holding. holding ≡ record { mode = mode_of want; of = self.old.number; count = size_for want self.old.kind }) }
-        ensures some { OnSome result (self.new ≡ record self.old { line = take_permits (size_for want self.old.kind) self.old.line; held = self.old.held + size_for want self.old.kind }) }
+        ensures some { OnSome result (self.new ≡ on_semaphore (taken (size_for want self.old.kind)) self.old) }
         ensures none { IfNone result (self.new ≡ self.old) }
         ensures steady { IsSteady self.new }
     {
@@ -187,7 +188,7 @@ impl Object {
     ) -> Result<(), ReleaseError>
         requires { IsTrue (is_of self.old.kind Permit) }
         ensures overflow { IsErrOf result ReleaseError.Overflow ↔ IsTrue (overflows n self.old.line self.old.held) }
-        ensures ok { OnOk result (self.new ≡ record self.old { line = give_back n self.old.line }) }
+        ensures ok { OnOk result (self.new ≡ on_semaphore (released n) self.old) }
         ensures err { OnErr result (self.new ≡ self.old) }
         ensures steady { IsSteady self.new }
     {
@@ -205,7 +206,7 @@ impl Object {
     ) -> Result<(), ReduceError>
         requires { IsTrue (is_of self.old.kind Permit) }
         ensures debt { IsErrOf result ReduceError.Debt ↔ IsTrue (owes_too_much n self.old.line) }
-        ensures ok { OnOk result (self.new ≡ record self.old { line = take_permits n self.old.line }) }
+        ensures ok { OnOk result (self.new ≡ on_semaphore (reduced n) self.old) }
         ensures err { OnErr result (self.new ≡ self.old) }
         ensures steady { IsSteady self.new }
     {
@@ -219,7 +220,7 @@ impl Object {
     pub(crate) fn drain(&mut self, n: u64) -> u64
         requires { IsTrue (is_of self.old.kind Permit) }
         ensures count { result ≡ drained n self.old.line }
-        ensures state { self.new ≡ record self.old { line = take_permits result self.old.line } }
+        ensures state { self.new ≡ on_semaphore (reduced result) self.old }
         ensures steady { IsSteady self.new }
     {
         match &mut self.primitive {
@@ -230,9 +231,7 @@ impl Object {
 
     /// Takes the oldest waker to wake.
     pub(crate) fn take_wake(&mut self) -> Option<Waker>
-        ensures woken { MatchOption result
-            ((self.old.line.wakes ≡ []) × (self.new ≡ self.old))
-            (λ waker. self.old ≡ record self.new { line = record self.new.line { wakes = waker.0 ∷ self.new.line.wakes } }) }
+        ensures woken { TakesWakeOf self.old result self.new }
         ensures steady { IsSteady self.new }
     {
         match &mut self.primitive {

@@ -1,16 +1,15 @@
 //! A script that is being played, piece by piece.
 ghost use Rattle.std.specs.Prelude.{◌≡◌, ◌+◌, ◌<◌, ◌≤◌, [], ◌++◌, length, OnOk, OnErr, IfOk, IfErr, Err, string_bytes};
-ghost use Rattle.band_base.specs.Device.{Rose, Adds};
+ghost use Rattle.std.specs.Io.KnownBytes.{Appends};
+ghost use Rattle.band_base.specs.Device.{Rose, AppendsPrefix};
 ghost use Rattle.band_play.specs.Player.{wakers_left};
-ghost use Rattle.band_play.specs.Play.{AddsFront};
 ghost use Rattle.band_play.specs.Playing.{HasRun, RunsPiece, PlaysPiece, StopsInPiece, AddsSome};
 ghost use Rattle.band_play.specs.Answers.{answer_at_end};
 
 use crate::held::HeldLine;
 use crate::lines::{split_line, tell_call};
-use crate::outlet::write_all;
 use crate::{PlayFault, Player};
-use band_base::{Sink, SinkError, Steps};
+use band_base::{Sink, SinkError, Steps, write_all};
 use std::alloc::{AllocError, Global};
 use std::sync::ledger::Ledger;
 
@@ -94,8 +93,8 @@ impl Playing {
 
     /// Writes the text so far.
     fn write_text<D: Sink>(&mut self, dst: &mut D) -> Result<(), SinkError>
-        ensures ok { OnOk result (Adds (string_bytes self.old.text) (D.written dst.old) (D.written dst.new)) }
-        ensures err { OnErr result (AddsFront (string_bytes self.old.text) (D.written dst.old) (D.written dst.new)) }
+        ensures ok { OnOk result (Appends (D.written dst.old) (D.written dst.new) (string_bytes self.old.text)) }
+        ensures err { OnErr result (AppendsPrefix (string_bytes self.old.text) (D.written dst.old) (D.written dst.new)) }
         ensures emptied { OnOk result (string_bytes self.new.text ≡ []) }
         ensures others { self.new ≡ record self.old { text = self.new.text } }
         ensures never_fall { D.faults dst.old ≤ D.faults dst.new }

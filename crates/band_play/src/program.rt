@@ -1,14 +1,13 @@
 //! The program over its words, a source and two sinks.
 ghost use Rattle.std.specs.Prelude.{◌≡◌, ◌≢◌, ◌↔◌, ◌⊎◌, ℕ, ◌+◌, ◌≤◌, [], ◌∷◌, ◌++◌, codes, map, string_bytes, IsTrue, Err};
-ghost use Rattle.band_base.specs.Device.{Rose};
+ghost use Rattle.band_base.specs.Device.{Rose, AppendsPrefix};
 ghost use Rattle.band_play.specs.Script.{Good, Malformed, TooLong};
-ghost use Rattle.band_play.specs.Play.{Comes, AllRead, Takes, TakesJust, StopsEarly, AddsFront, WritesFront, KeepsUp, CompletesAs, Told, ToldText, ToldWith, IsStatus, status_of, program_limit};
+ghost use Rattle.band_play.specs.Play.{Comes, AllRead, Takes, TakesJust, StopsEarly, WritesFront, KeepsUp, CompletesAs, Told, ToldText, ToldWith, IsStatus, status_of, program_limit};
 ghost use Rattle.band_play.specs.Text.{fault_text};
 
-use crate::outlet::write_all;
 use crate::print::push_fault;
 use crate::{PlayFault, play};
-use band_base::{Sink, SinkError, Source, Steps};
+use band_base::{Sink, SinkError, Source, Steps, write_all};
 use std::alloc::{AllocError, Global};
 use std::sync::ledger::Ledger;
 
@@ -70,7 +69,7 @@ pub fn run<S: Source, D: Sink, E: Sink, L: Ledger>(
 fn tell_fault<E: Sink>(alloc: Global, err: &mut E, fault: &PlayFault) -> u8
     ensures status { (result ≡ status_of (Err fault.now)) ⊎ (result ≡ 7) }
     ensures told { result ≡ status_of (Err fault.now) → result ≢ 7 → Told (fault_text fault.now) (E.written err.old) (E.written err.new) (E.faults err.old) (E.faults err.new) }
-    ensures front { AddsFront (fault_text fault.now ++ 10 ∷ []) (E.written err.old) (E.written err.new) }
+    ensures front { AppendsPrefix (fault_text fault.now ++ 10 ∷ []) (E.written err.old) (E.written err.new) }
     ensures never_fall { E.faults err.old ≤ E.faults err.new }
 {
     let mut text = String::new(alloc);
@@ -84,7 +83,7 @@ fn tell_fault<E: Sink>(alloc: Global, err: &mut E, fault: &PlayFault) -> u8
 fn tell<E: Sink>(err: &mut E, text: &[u8], status: u8) -> u8
     ensures status { (result ≡ status) ⊎ (result ≡ 7) }
     ensures told { result ≡ status → result ≢ 7 → ToldText text.now (E.written err.old) (E.written err.new) (E.faults err.old) (E.faults err.new) }
-    ensures front { AddsFront text.now (E.written err.old) (E.written err.new) }
+    ensures front { AppendsPrefix text.now (E.written err.old) (E.written err.new) }
     ensures never_fall { E.faults err.old ≤ E.faults err.new }
 {
     match write_all(err, text) {

@@ -1,6 +1,7 @@
 //! The playing of a script from a source to a sink.
-ghost use Rattle.std.specs.Prelude.{◌≡◌, ℕ, ◌+◌, ◌<◌, ◌≤◌, [], take, length, OnOk, OnErr, IfOk, IfSome, Err};
-ghost use Rattle.band_base.specs.Device.{Rose, GivesFront};
+ghost use Rattle.std.specs.Prelude.{◌≡◌, ℕ, ◌+◌, ◌<◌, ◌≤◌, [], take, length, OnOk, OnErr, IfOk, Err};
+ghost use Rattle.std.specs.Io.KnownBytes.{Consumes, Keeps, IsAtEnd};
+ghost use Rattle.band_base.specs.Device.{Rose};
 ghost use Rattle.band_play.specs.Script.{Good, Malformed, TooLong};
 ghost use Rattle.band_play.specs.Play.{Comes, AllRead, Takes, TakesJust, StopsEarly, WritesFront, KeepsUp, Completes};
 ghost use Rattle.band_play.specs.Answers.{Answers};
@@ -85,12 +86,12 @@ fn read_piece<'a, S: Source>(
     left: u64,
 ) -> Result<&'a [u8], SourceFailed>
     requires { left < u64.MAX }
-    ensures front { IfOk result (λ given. GivesFront given.now (S.left src.old) (S.left src.new)) }
+    ensures front { IfOk result (λ given. Consumes (S.left src.old) (S.left src.new) given.now) }
     ensures count { IfOk result (λ given. length given.now ≤ left + 1) }
     ensures fits { IfOk result (λ given. length given.now ≤ 4096) }
-    // Nothing is given only at the end, where the source tells its bytes.
-    ensures end { IfOk result (λ given. given.now ≡ [] → IfSome (S.left src.old) (λ bytes. bytes ≡ [])) }
-    ensures err { OnErr result (S.left src.new ≡ S.left src.old) }
+    // Nothing is given only at the end.
+    ensures end { IfOk result (λ given. given.now ≡ [] → IsAtEnd (S.left src.new)) }
+    ensures err { OnErr result (Keeps (S.left src.old) (S.left src.new)) }
     ensures never_fall { S.faults src.old ≤ S.faults src.new }
     ensures failed { OnErr result (Rose (S.faults src.old) (S.faults src.new)) }
 {

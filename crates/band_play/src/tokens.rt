@@ -2,10 +2,11 @@
 ghost use Rattle.std.specs.Prelude.{◌≡◌, ◌+◌, ◌-◌, ◌<◌, ◌≤◌, List, ℕ, length, None, Some, IfOk, OnOk, OnErr, IsTrue, is_some};
 ghost use Rattle.std.specs.Borrow.{sem};
 ghost use Rattle.std.specs.Option.{option_copied, option_copied_mut};
-ghost use Rattle.band_balance.specs.Line.{is_served, take_permits};
+ghost use Rattle.band_balance.specs.Line.{is_served};
 ghost use Rattle.band_balance.specs.Object.{Permit};
 ghost use Rattle.band_play.specs.Apart.{at, Sets};
-ghost use Rattle.band_play.specs.Objects.{IsSteady};
+ghost use Rattle.band_sem.specs.Semaphore.{taken};
+ghost use Rattle.band_play.specs.Objects.{on_semaphore, IsSteady};
 ghost use Rattle.band_play.specs.Step.{is_of};
 ghost use Rattle.band_play.specs.Token.{Holding as TheHolding, TokenState, thing_of};
 ghost use Rattle.band_play.specs.Moves.{AsksFirst, IsOffered, mode_of, size_for};
@@ -134,7 +135,7 @@ impl Tokens {
         requires offered { IsTrue (is_of object.old.kind (mode_of want)) }
         requires served { IsTrue (is_served (size_for want object.old.kind) object.old.line) }
         ensures ok { OnOk result (Sets self.old self.new name (Some (TheHolding (record { mode = mode_of want; of = object.old.number; count = size_for want object.old.kind })))) }
-        ensures taken { OnOk result (object.new ≡ record object.old { line = take_permits (size_for want object.old.kind) object.old.line; held = object.old.held + size_for want object.old.kind }) }
+        ensures taken { OnOk result (object.new ≡ on_semaphore (taken (size_for want object.old.kind)) object.old) }
         ensures steady { OnOk result (IsSteady object.new) }
         ensures same { OnErr result ((other : List ℕ) → at self.new other ≡ at self.old other) }
         ensures err { OnErr result (object.new ≡ object.old) }

@@ -74,10 +74,7 @@ module _ (old new : SemaphoreState) where
   KeepsOrder-first_poll request request' waker (Ok (Ready permit)) h = ordered_as _ h.2 (KeepsOrder-same old.line (take_permits request.size old.line) refl)
   KeepsOrder-first_poll request request' waker (Ok Pending) h = ordered_as _ h.1.2 (KeepsOrder-join h.1.0 request.size waker old.line h.1.1)
   KeepsOrder-first_poll request request' waker (Err errors.NoMemory) h = unchanged h.1
-  KeepsOrder-first_poll request request' waker (Err errors.Finished) h = absurd h
-  KeepsOrder-first_poll request request' waker (Err errors.CountFull) h = absurd h
-  KeepsOrder-first_poll request request' waker (Err errors.Unknown) h = absurd h
-  KeepsOrder-first_poll request request' waker (Err errors.Driven) h = absurd h
+  KeepsOrder-first_poll request request' waker (Err error) h = absurd h
 
   pub KeepsOrder-later_poll : (slot : ℕ) (request request' : Request) (waker : ℕ) (result : Result (Poll Permit) PollError) → LaterPoll slot request waker old result request' new → KeepsOrder old.line new.line
   KeepsOrder-later_poll slot request request' waker (Ok (Ready permit)) h = ordered_as _ h.2 (KeepsOrder-without (is_slot slot) old.line (poll_granted (is_slot slot) old.line) (requests-poll_granted (is_slot slot) old.line _ h.0))

@@ -6,7 +6,7 @@ use Rattle.std.proofs.lemmas.Int.{ints}
 use Rattle.band_balance.specs.Line.{Entry, Waiting, Line, entry_of, total, settle, settle_from, u64_max}
 use Rattle.band_balance.specs.Settled.{HeadWaits}
 use Rattle.band_balance.proofs.Settle.{total-append, HeadWaits-settle}
-use Rattle.band_sem.specs.Queue.{QueueState, line_at}
+use Rattle.band_sem.specs.Kept.Queue.{QueueState, line_at}
 
 -- what is free, granted and held stays within its ends
 pub record CountsFit (held : ℕ) (free : ℤ) (granted : ℕ) : Type 0 where

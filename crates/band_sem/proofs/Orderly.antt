@@ -7,7 +7,7 @@ use Rattle.std.proofs.lemmas.List.Edits.{length-remove}
 use Rattle.std.proofs.lemmas.List.Elements.{All-push, All-get_or, All-append, All-take, All-drop, All-set, All-tail, All-head, filter-append}
 use Rattle.band_balance.specs.Line.{Waiting, entry_of, total, settle}
 use Rattle.band_balance.proofs.Settle.{total-append}
-use Rattle.band_sem.specs.Queue.{state_at, line_at, IsInOrder, slots, there, is_there, head_fits, slot_after}
+use Rattle.band_sem.specs.Kept.Queue.{state_at, line_at, IsInOrder, slots, there, is_there, head_fits, slot_after}
 use Rattle.band_sem.proofs.Slots.{AreRising-join, AreRising-remove}
 use Rattle.band_sem.proofs.Places.{there-remove, there-set}
 use Rattle.band_sem.proofs.Parts.{take-remove_before, drop-remove_before, take-remove_behind, drop-remove_behind, take-set_before, drop-set_behind, drop-remove_at, map-set_same}

@@ -1,13 +1,17 @@
 -- A request keeps its place in the line through the calls for others.
-use Rattle.std.proofs.Common.{◌≡◌, ℕ, true, false, List, [], ◌∷◌, ap, sym, ◌∙◌, arith, nat_eq, Option, Some, None, Ok}
+use Rattle.std.proofs.Common.{◌≡◌, ℕ, true, false, List, [], ◌∷◌, ap, refl, sym, ◌∙◌, arith, nat_eq, Option, Some, None, Result, Ok, Err}
 use Rattle.std.specs.List.{AllByRecursion}
 use Rattle.std.proofs.lemmas.Bool.Decides.{nat_tests}
-use Rattle.band_balance.specs.Line.{Entry, Line, requests, entry_named, join, poll_granted, poll_waiting, cancel, give_back}
-use Rattle.band_balance.proofs.Requests.{entry_named-join_itself, entry_named-join_other, entry_named-cancel_other, entry_named-poll_granted_other, entry_named-poll_waiting, entry_named-give_back}
-use Rattle.band_base.specs.declared.poll.Poll.TheVariants.{Pending}
-use Rattle.band_sem.specs.declared.acquire.Stage.TheVariants.{NotPolled, Joined}
-use Rattle.band_sem.specs.Request.{Request}
-use Rattle.band_sem.specs.Semaphore.{SemaphoreState, IsOwn, Polls, is_slot}
+use Rattle.band_balance.specs.Line.{Entry, Line, requests, entry_named, join, poll_granted, poll_waiting, cancel}
+use Rattle.band_balance.proofs.Requests.{entry_named-join_itself, entry_named-join_other, entry_named-cancel_other, entry_named-poll_granted_other, entry_named-poll_waiting, requests-give_back}
+use Rattle.band_base.specs.declared.poll.Poll.{Poll}
+use Rattle.band_base.specs.declared.poll.Poll.TheVariants.{Ready, Pending}
+use Rattle.band_base.specs.declared.poll.PollError.{PollError}
+use Rattle.band_base.specs.declared.poll.PollError.TheVariants as errors
+use Rattle.band_base.specs.declared.waker.Waker.{Waker}
+use Rattle.band_sem.specs.Permit.{Permit}
+use Rattle.band_sem.specs.Request.{Request, Stage, NotPolled, Joined, Finished}
+use Rattle.band_sem.specs.Semaphore.{SemaphoreState, IsOwn, SlotsDiffer, Polls, PollsAt, TakesWake, taken, given_back, released, reduced, forgotten, cancelled, is_slot}
 
 same_slot : (slot : ℕ) → nat_eq slot slot ≡ true
 same_slot slot = grind (arith, nat_tests)
@@ -46,14 +50,74 @@ IsOwn-poll_granted_other mine size other line h own = entry_named-poll_granted_o
 pub IsOwn-poll_waiting : (mine size slot waker : ℕ) (line : Line ℕ) → IsOwn (Joined mine) size line → IsOwn (Joined mine) size (poll_waiting (is_slot slot) waker line)
 IsOwn-poll_waiting mine size slot waker line own = entry_named-poll_waiting (is_slot slot) (is_slot mine) waker line ∙ own
 
-pub IsOwn-give_back : (mine size count : ℕ) (line : Line ℕ) → IsOwn (Joined mine) size line → IsOwn (Joined mine) size (give_back count line)
-IsOwn-give_back mine size count line own = entry_named-give_back (is_slot mine) count line ∙ own
+-- who is in the line stays there where the requests in it stay the same
+IsOwn-same : (stage : Stage) (size : ℕ) (old new : Line ℕ) → requests new ≡ requests old → IsOwn stage size old → IsOwn stage size new
+IsOwn-same NotPolled size old new same own = tt
+IsOwn-same (Joined slot) size old new same own = ap (entry_named (is_slot slot)) same ∙ own
+IsOwn-same Finished size old new same own = tt
 
-IsOwn-joined : (request request' : Request) (slot waker : ℕ) (old new : SemaphoreState) → entry_named (is_slot slot) (requests old.line) ≡ None → new ≡ record old { line = join slot request.size waker old.line } → request' ≡ record request { stage = Joined slot } → IsOwn request'.stage request'.size new.line
-IsOwn-joined request request' slot waker old new fresh p q = rw (q, p) (IsOwn-join_itself slot request.size waker old.line fresh)
+-- What calls for others leave of one's own place.
+module _ (mine : Request) (old new : SemaphoreState) (own : IsOwn mine.stage mine.size old.line) where
+  pub IsOwn-taken : (n : ℕ) → new ≡ taken n old → IsOwn mine.stage mine.size new.line
+  IsOwn-taken n is = rw is (IsOwn-same mine.stage mine.size old.line _ refl own)
 
--- a request that was not polled before, and waits now
-pub IsOwn-pending : (request request' : Request) (waker : ℕ) (old new : SemaphoreState) → request.stage ≡ NotPolled → Polls request waker old (Ok Pending) request' new → IsOwn request'.stage request'.size new.line
-IsOwn-pending request request' waker old new first polls =
-    let joins = rw first at polls in
-    IsOwn-joined request request' joins.1.0 waker old new joins.1.1 joins.1.2 joins.1.3
+  pub IsOwn-reduced : (n : ℕ) → new ≡ reduced n old → IsOwn mine.stage mine.size new.line
+  IsOwn-reduced n is = rw is (IsOwn-same mine.stage mine.size old.line _ refl own)
+
+  pub IsOwn-forgotten : (n : ℕ) → new ≡ forgotten n old → IsOwn mine.stage mine.size new.line
+  IsOwn-forgotten n is = rw is own
+
+  pub IsOwn-given_back : (n : ℕ) → new ≡ given_back n old → IsOwn mine.stage mine.size new.line
+  IsOwn-given_back n is = rw is (IsOwn-same mine.stage mine.size old.line _ (requests-give_back n old.line) own)
+
+  pub IsOwn-released : (n : ℕ) → new ≡ released n old → IsOwn mine.stage mine.size new.line
+  IsOwn-released n is = rw is (IsOwn-same mine.stage mine.size old.line _ (requests-give_back n old.line) own)
+
+  pub IsOwn-wakes : (result : Option Waker) → TakesWake old result new → IsOwn mine.stage mine.size new.line
+  IsOwn-wakes None (none, same) = rw same own
+  IsOwn-wakes (Some waker) (first, takes) = rw takes (IsOwn-same mine.stage mine.size old.line _ refl own)
+
+  pub IsOwn-cancels : (other : Stage) → SlotsDiffer mine.stage other → new ≡ cancelled other old → IsOwn mine.stage mine.size new.line
+  IsOwn-cancels NotPolled apart same = rw same own
+  IsOwn-cancels Finished apart same = rw same own
+  IsOwn-cancels (Joined slot) apart ends = rw ends (at mine.stage own apart)
+    where
+      at : (stage : Stage) → IsOwn stage mine.size old.line → SlotsDiffer stage (Joined slot) → IsOwn stage mine.size (cancelled (Joined slot) old).line
+      at NotPolled own apart = tt
+      at (Joined my_slot) own apart = IsOwn-cancel_other my_slot mine.size slot old.line apart own
+      at Finished own apart = tt
+
+  -- another's poll, after which the two still have no slot in common
+  pub IsOwn-polls : (other other' : Request) (waker : ℕ) (result : Result (Poll Permit) PollError) → SlotsDiffer mine.stage other.stage → Polls other waker old result other' new
+      → IsOwn mine.stage mine.size new.line × SlotsDiffer mine.stage other'.stage
+  IsOwn-polls other other' waker result apart polled = at mine.stage own other.stage refl apart result polled
+    where
+      at : (stage : Stage) → IsOwn stage mine.size old.line → (stage' : Stage) → other.stage ≡ stage' → SlotsDiffer stage stage' → (result : Result (Poll Permit) PollError) → PollsAt stage' other waker old result other' new
+          → IsOwn stage mine.size new.line × SlotsDiffer stage other'.stage
+      at NotPolled own stage' is apart result polled = (tt, tt)
+      at Finished own stage' is apart result polled = (tt, tt)
+      at (Joined slot) own NotPolled is apart (Ok (Ready permit)) (served, gives, takes, ends) = rw (takes, ends) (own, tt)
+      at (Joined slot) own NotPolled is apart (Ok Pending) (waits, (new_slot, fresh, joins, left)) =
+          let other_slot = is_other_slot slot mine.size new_slot old.line own fresh in
+          rw (joins, left) (IsOwn-join_other slot mine.size new_slot other.size waker old.line other_slot own, other_slot)
+      at (Joined slot) own NotPolled is apart (Err errors.NoMemory) (waits, same, left) = rw (same, left, is) (own, tt)
+      at (Joined slot) own NotPolled is apart (Err error) polled = absurd polled
+      at (Joined slot) own (Joined slot') is apart (Ok (Ready permit)) (there, gives, receives, ends) = rw (receives, ends) (IsOwn-poll_granted_other slot mine.size slot' old.line apart own, tt)
+      at (Joined slot) own (Joined slot') is apart (Ok Pending) (none, leaves, left) = rw (leaves, left, is) (IsOwn-poll_waiting slot mine.size slot' waker old.line own, apart)
+      at (Joined slot) own (Joined slot') is apart (Err error) polled = absurd polled
+      at (Joined slot) own Finished is apart result (refused, same, left) = rw (same, left, is) (own, tt)
+
+-- One's own poll leaves one in the line, or finished.
+pub IsOwn-polled : (mine mine' : Request) (waker : ℕ) (old new : SemaphoreState) (result : Result (Poll Permit) PollError) → IsOwn mine.stage mine.size old.line → Polls mine waker old result mine' new
+    → IsOwn mine'.stage mine'.size new.line
+IsOwn-polled mine mine' waker old new result own polled = at mine.stage refl own result polled
+  where
+    at : (stage : Stage) → mine.stage ≡ stage → IsOwn stage mine.size old.line → (result : Result (Poll Permit) PollError) → PollsAt stage mine waker old result mine' new → IsOwn mine'.stage mine'.size new.line
+    at NotPolled is own (Ok (Ready permit)) (served, gives, takes, ends) = rw (takes, ends) tt
+    at NotPolled is own (Ok Pending) (waits, (slot, fresh, joins, left)) = rw (joins, left) (IsOwn-join_itself slot mine.size waker old.line fresh)
+    at NotPolled is own (Err errors.NoMemory) (waits, same, left) = rw (same, left, is) own
+    at NotPolled is own (Err error) polled = absurd polled
+    at (Joined slot) is own (Ok (Ready permit)) (there, gives, receives, ends) = rw (receives, ends) tt
+    at (Joined slot) is own (Ok Pending) (none, leaves, left) = rw (leaves, left, is) (IsOwn-poll_waiting slot mine.size slot waker old.line own)
+    at (Joined slot) is own (Err error) polled = absurd polled
+    at Finished is own result (refused, same, left) = rw (same, left, is) own

@@ -15,7 +15,7 @@ use Rattle.std.proofs.lemmas.List.Sums.{sum_by-cons, sum_by-remove}
 use Rattle.band_balance.specs.Line.{Waiting, entry_of, total, entry_named, without, without_waiting, leave_waker}
 use Rattle.band_balance.proofs.Settle.{total-cons}
 use Rattle.band_sem.specs.Semaphore.{is_slot}
-use Rattle.band_sem.specs.Queue.{AreRising, slots, there, is_there, NobodyHas, IsPlaceOf}
+use Rattle.band_sem.specs.Kept.Queue.{AreRising, slots, there, is_there, NobodyHas, IsPlaceOf}
 use Rattle.band_sem.proofs.Slots.{AreRising-at}
 
 -- what a look-up past the end is said to give

@@ -4,7 +4,7 @@ use Rattle.std.specs.List.{IsDistinct, AllByRecursion, filter, remove}
 use Rattle.std.proofs.lemmas.Bool.Decides.{nat_tests}
 use Rattle.std.proofs.lemmas.List.{get_or-map, length-map}
 use Rattle.band_balance.specs.Line.{Waiting, entry_of}
-use Rattle.band_sem.specs.Queue.{AreRising, slot_after, slots, there, is_there, NobodyHas}
+use Rattle.band_sem.specs.Kept.Queue.{AreRising, slot_after, slots, there, is_there, NobodyHas}
 
 AreRising-lower : (low' low : ℕ) (xs : List ℕ) → low' ≤ low → AreRising low xs → AreRising low' xs
 AreRising-lower low' low [] p h = tt

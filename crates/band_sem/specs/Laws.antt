@@ -2,8 +2,7 @@
 use Rattle.std.specs.Prelude.{◌≡◌, ℕ, false, List, [], ◌∷◌, ◌++◌, map, pos, ◌+ℤ◌, None, ◌⊎◌}
 use Rattle.std.specs.List.{AllByRecursion}
 use Rattle.band_balance.specs.Line.{Entry, Waiting, Line, entry_of, requests, total, entry_named, without, without_waiting}
-use Rattle.band_sem.specs.declared.acquire.Stage.{Stage}
-use Rattle.band_sem.specs.declared.acquire.Stage.TheVariants.{NotPolled, Joined, Finished}
+use Rattle.band_sem.specs.Request.{Stage, NotPolled, Joined, Finished}
 use Rattle.band_sem.specs.Semaphore.{SemaphoreState, is_slot}
 
 -- some of the entries, in the same order
@@ -39,7 +38,8 @@ pub record MakesRoomFor (slot : ℕ) (old new : Line ℕ) (granted_now : List (W
   -- what is free and granted stays the same in all
   pub sum : new.free +ℤ pos (total new.granted) ≡ old.free +ℤ pos (total old.granted)
   -- one that waited behind another makes room for nobody
-  pub none_behind : entry_named (is_slot slot) old.granted ≡ None → IsBehind slot old.waiting → granted_now ≡ []
+  pub none_behind : entry_named (is_slot slot) old.granted ≡ None → IsBehind slot old.waiting
+      → granted_now ≡ []
 
 -- who leaves under this slot changes nothing but what is free, its own place, and what those behind it are then granted
 abbrev pub LeavesOthers : ℕ → SemaphoreState → SemaphoreState → Type 0

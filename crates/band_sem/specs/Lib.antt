@@ -1,7 +1,7 @@
+pub mod Kept
 pub mod Laws
 pub mod Permit
-pub mod Queue
 pub mod Request
 pub mod Semaphore
-pub mod Store
+pub mod Whole
 pub use Rattle.band_balance.specs.Line

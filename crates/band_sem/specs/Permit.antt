@@ -4,3 +4,7 @@ use Rattle.std.specs.Prelude.{ℕ}
 pub record Permit : Type 0 where
   pub of : ℕ
   pub count : ℕ
+
+-- so many permits of the semaphore with this number
+abbrev pub new_permit : ℕ → ℕ → Permit
+new_permit number count = record { of = number; count = count }

@@ -1,8 +1,20 @@
 use Rattle.std.specs.Prelude.{ℕ}
-use Rattle.band_sem.specs.declared.acquire.Stage.{Stage}
+
+-- what a request has come to
+pub data Stage : Type 0 where
+  -- it was not polled yet
+  NotPolled : Stage
+  -- it is in the line under this slot: it waits, or it was granted
+  Joined : (slot : ℕ) → Stage
+  -- it gave its permits
+  Finished : Stage
 
 -- what a contract sees of a request: the number of its semaphore, how many permits it asks for, and what it has come to
 pub record Request : Type 0 where
   pub of : ℕ
   pub size : ℕ
   pub stage : Stage
+
+-- a request for so many permits of the semaphore with this number
+abbrev pub new_request : ℕ → ℕ → Request
+new_request number size = record { of = number; size = size; stage = NotPolled }

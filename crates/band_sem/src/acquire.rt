@@ -1,7 +1,9 @@
 //! A request for permits.
 ghost use Rattle.std.specs.Prelude.{◌≡◌};
 ghost use Rattle.band_sem.specs.Laws.{KeepsOrder, Leaves};
+ghost use Rattle.band_sem.specs.Request.{new_request, Joined};
 ghost use Rattle.band_sem.specs.Semaphore.{IsLawful, IsOwn, Polls, FirstPoll, LaterPoll, cancelled};
+ghost use Rattle.band_sem.specs.Whole.{StaysWhole};
 
 use crate::store::Entrance;
 use crate::{Semaphore, SemaphorePermit};
@@ -11,12 +13,12 @@ use std::sync::ledger::Ledger;
 
 /// What a request has come to.
 #[derive(Drop)]
-enum Stage {
+enum Progress {
     /// It was not polled yet.
     NotPolled,
     /// It has this slot of its semaphore, and waits or was granted.
     Joined(u64),
-    /// It gave its permits, or it ended.
+    /// It gave its permits.
     Finished,
 }
 
@@ -24,49 +26,50 @@ enum Stage {
 pub struct Acquire {
     of: u64,
     size: u64,
-    stage: Stage,
+    progress: Progress,
 }
 
 impl Model for Acquire {
     ghost use Rattle.band_sem.specs.Request.{Request};
+    ghost use Rattle.band_sem.specs.Kept.Progress.{stage_of};
 
     ghost Value = { Request };
 
-    ghost view = { λ r. record { of = r.of; size = r.size; stage = r.stage } };
+    ghost view = { λ r. record { of = r.of; size = r.size; stage = stage_of r.progress } };
 }
 
 impl Acquire {
     /// A request that was not polled.
     pub(crate) fn new(of: u64, size: u64) -> Acquire
-        ensures { result ≡ record { of = of; size = size; stage = Stage.NotPolled } }
+        ensures { result ≡ new_request of size }
     {
         Acquire {
             of,
             size,
-            stage: Stage::NotPolled,
+            progress: Progress::NotPolled,
         }
     }
 
-    /// The number of its semaphore (own).
+    /// The number of its semaphore.
     pub fn of(&self) -> u64
         ensures { result ≡ self.now.of }
     {
         self.of
     }
 
-    /// How many permits it asks for (own).
+    /// How many permits it asks for.
     pub fn requested(&self) -> u64
         ensures { result ≡ self.now.size }
     {
         self.size
     }
 
-    /// Ends the state and leaves what it stands for in the line, for a semaphore that ends too (own).
+    /// Ends the state and leaves what it stands for in the line, for a semaphore that ends too.
     pub fn lose(self) {
         let Acquire {
             of: _,
             size: _,
-            stage: _,
+            progress: _,
         } = self;
     }
 
@@ -81,12 +84,13 @@ impl Acquire {
         requires own { IsOwn self.old.stage self.old.size sem.old.line }
         ensures polls { Polls self.old waker.0 sem.old result self.new sem.new }
         ensures order { KeepsOrder sem.old.line sem.new.line }
-        ensures lawful { IsLawful sem.new.line sem.new.held }
+        ensures lawful { IsLawful sem.new }
+        ensures whole { StaysWhole sem.old sem.new }
     {
-        match self.stage {
-            Stage::NotPolled => self.poll_first(sem, waker),
-            Stage::Joined(slot) => Ok(self.poll_later(sem, slot, waker)),
-            Stage::Finished => {
+        match self.progress {
+            Progress::NotPolled => self.poll_first(sem, waker),
+            Progress::Joined(slot) => Ok(self.poll_later(sem, slot, waker)),
+            Progress::Finished => {
                 sem.touch();
                 Err(PollError::Finished)
             }
@@ -99,15 +103,15 @@ impl Acquire {
         waker: Waker,
     ) -> Result<Poll<SemaphorePermit>, PollError>
         ensures polls { FirstPoll self.old waker.0 sem.old result self.new sem.new }
-        ensures lawful { IsLawful sem.new.line sem.new.held }
+        ensures lawful { IsLawful sem.new }
     {
         match sem.enter(self.size, waker) {
             Ok(Entrance::Served) => {
-                self.stage = Stage::Finished;
+                self.progress = Progress::Finished;
                 Ok(Poll::Ready(SemaphorePermit::new(self.of, self.size)))
             }
             Ok(Entrance::Joined(slot)) => {
-                self.stage = Stage::Joined(slot);
+                self.progress = Progress::Joined(slot);
                 Ok(Poll::Pending)
             }
             Err(_) => Err(PollError::NoMemory),
@@ -115,13 +119,13 @@ impl Acquire {
     }
 
     fn poll_later(&mut self, sem: &mut Semaphore, slot: u64, waker: Waker) -> Poll<SemaphorePermit>
-        requires { IsOwn (Stage.Joined slot) self.old.size sem.old.line }
+        requires { IsOwn (Joined slot) self.old.size sem.old.line }
         ensures polls { LaterPoll slot self.old waker.0 sem.old (Ok result) self.new sem.new }
-        ensures lawful { IsLawful sem.new.line sem.new.held }
+        ensures lawful { IsLawful sem.new }
     {
         match sem.poll_slot(slot, waker) {
             Some(size) => {
-                self.stage = Stage::Finished;
+                self.progress = Progress::Finished;
                 Poll::Ready(SemaphorePermit::new(self.of, size))
             }
             None => Poll::Pending,
@@ -135,11 +139,12 @@ impl Acquire {
         ensures state { sem.new ≡ cancelled self.stage sem.old }
         ensures others { Leaves self.stage sem.old sem.new }
         ensures order { KeepsOrder sem.old.line sem.new.line }
-        ensures lawful { IsLawful sem.new.line sem.new.held }
+        ensures lawful { IsLawful sem.new }
+        ensures whole { StaysWhole sem.old sem.new }
     {
-        match &self.stage {
-            Stage::Joined(slot) => sem.cancel(*slot),
-            Stage::NotPolled | Stage::Finished => sem.touch(),
+        match &self.progress {
+            Progress::Joined(slot) => sem.cancel(*slot),
+            Progress::NotPolled | Progress::Finished => sem.touch(),
         }
         self.lose();
     }

@@ -1,6 +1,6 @@
 //! What a request is answered with.
 ghost use Rattle.std.specs.Prelude.{◌≡◌, ◌≢◌, ◌+◌, ◌-◌, ◌<◌, ◌≤◌, ◌↔◌, IsNone, IfSome, IfNone, IsErr, IfErr, OnOk, OnErr};
-ghost use Rattle.band_sem.specs.Permit.{Permit};
+ghost use Rattle.band_sem.specs.Permit.{Permit, new_permit};
 
 use crate::MergeError;
 use std::marker::Model;
@@ -22,7 +22,7 @@ impl Model for SemaphorePermit {
 impl SemaphorePermit {
     /// Permits of the semaphore with this number, which the semaphore counts as held.
     pub(crate) fn new(of: u64, count: u64) -> SemaphorePermit
-        ensures { result ≡ record { of = of; count = count } }
+        ensures { result ≡ new_permit of count }
     {
         SemaphorePermit { of, count }
     }
@@ -34,7 +34,7 @@ impl SemaphorePermit {
         self.count
     }
 
-    /// The number of its semaphore (own).
+    /// The number of its semaphore.
     pub fn of(&self) -> u64
         ensures { result ≡ self.now.of }
     {
@@ -44,7 +44,8 @@ impl SemaphorePermit {
     /// Takes `n` of its permits into a token of their own, if there are as many.
     pub fn split(&mut self, n: u64) -> Option<SemaphorePermit>
         ensures beyond { IsNone result ↔ (self.old.count < n) }
-        ensures parts { IfSome result (λ other. (other ≡ record { of = self.old.of; count = n }) × (self.new ≡ record { of = self.old.of; count = self.old.count - n })) }
+        ensures new { IfSome result (λ other. other ≡ record self.old { count = n }) }
+        ensures left { IfSome result (λ other. self.new ≡ record self.old { count = self.old.count - n }) }
         ensures none { IfNone result (self.new ≡ self.old) }
     {
         if self.count < n {
@@ -59,7 +60,7 @@ impl SemaphorePermit {
         requires { self.old.of ≡ other.of → self.old.count + other.count ≤ u64.MAX }
         ensures other { IsErr result ↔ (self.old.of ≢ other.of) }
         ensures handed_back { IfErr result (λ e. e ≡ MergeError.OtherSemaphore other) }
-        ensures merged { OnOk result (self.new ≡ record { of = self.old.of; count = self.old.count + other.count }) }
+        ensures merged { OnOk result (self.new ≡ record self.old { count = self.old.count + other.count }) }
         ensures err { OnErr result (self.new ≡ self.old) }
     {
         if self.of != other.of {
@@ -70,7 +71,7 @@ impl SemaphorePermit {
         Ok(())
     }
 
-    /// Ends the token and leaves what it stands for counted, for a semaphore that ends too (own).
+    /// Ends the token and leaves what it stands for counted, for a semaphore that ends too.
     pub fn lose(self) {
         let SemaphorePermit { of: _, count: _ } = self;
     }

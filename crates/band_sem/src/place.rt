@@ -23,7 +23,7 @@ impl Model for Place {
 
 impl Place {
     ghost use Rattle.std.specs.Prelude.{◌≡◌};
-    ghost use Rattle.band_sem.specs.Queue.{is_there};
+    ghost use Rattle.band_sem.specs.Kept.Queue.{is_there};
 
     pub(crate) fn new(slot: u64, size: u64, waker: Waker) -> Place
         ensures { result ≡ record { name = slot; size = size; waker = waker.0 } }

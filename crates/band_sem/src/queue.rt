@@ -4,7 +4,7 @@ ghost use Rattle.std.specs.List.{remove};
 ghost use Rattle.std.specs.VecDeque.{deque_capacity};
 ghost use Rattle.band_balance.specs.Line.{Waiting, nobody_waits, total, settle, without_waiting, leave_waker, u64_max, entry_named};
 ghost use Rattle.band_sem.specs.Semaphore.{is_slot};
-ghost use Rattle.band_sem.specs.Queue.{queue_state, empty_queue, line_at, there, is_there, slots, slot_after, head_fits, IsOrderly, NobodyHas, IsPlaceOf, Joins, TakesGrant};
+ghost use Rattle.band_sem.specs.Kept.Queue.{queue_state, empty_queue, line_at, there, is_there, slots, slot_after, head_fits, IsOrderly, NobodyHas, IsPlaceOf, Joins, TakesGrant};
 
 use crate::place::Place;
 use band_base::Waker;

@@ -1,10 +1,12 @@
 //! The semaphore.
-ghost use Rattle.std.specs.Prelude.{◌≡◌, ◌+◌, ◌-◌, ◌<◌, ◌≤◌, ◌↔◌, [], ◌∷◌, length, IsTrue, IsSome, IfSome, OnSome, IfNone, IsErrOf, OnOk, OnErr, MatchOption};
-ghost use Rattle.band_balance.specs.Line.{open_line, total, available, drained, overflows, owes_too_much, is_served, take_permits, give_back, cancel};
-ghost use Rattle.band_sem.specs.declared.acquire.Stage.{Stage};
+ghost use Rattle.std.specs.Prelude.{◌≡◌, ℕ, ◌+◌, ◌-◌, ◌<◌, ◌≤◌, ◌↔◌, length, IsTrue, IsSome, IfSome, OnSome, IfNone, IsErrOf, OnOk, OnErr};
+ghost use Rattle.band_balance.specs.Line.{total, available, drained, overflows, owes_too_much, is_served};
+ghost use Rattle.band_sem.specs.Permit.{new_permit};
+ghost use Rattle.band_sem.specs.Request.{new_request};
 ghost use Rattle.band_sem.specs.Laws.{KeepsOrder, LeavesOthers};
-ghost use Rattle.band_sem.specs.Semaphore.{SemaphoreState, IsLawful, is_slot, with_wakes};
-ghost use Rattle.band_sem.specs.Store.{Enters, PollsSlot};
+ghost use Rattle.band_sem.specs.Semaphore.{SemaphoreState, IsLawful, new_state, taken, given_back, forgotten, released, reduced, without_request, TakesWake};
+ghost use Rattle.band_sem.specs.Kept.Store.{Enters, PollsSlot};
+ghost use Rattle.band_sem.specs.Whole.{IsWhole, StaysWhole};
 
 use crate::store::{Entrance, Store};
 use crate::{Acquire, ReduceError, ReleaseError, SemaphorePermit};
@@ -20,9 +22,8 @@ pub struct Semaphore {
 }
 
 impl Model for Semaphore {
-    ghost use Rattle.band_sem.specs.declared.acquire.Stage.{Stage};
     ghost use Rattle.band_sem.specs.Semaphore.{SemaphoreState};
-    ghost use Rattle.band_sem.specs.Store.{state_of, IsSound};
+    ghost use Rattle.band_sem.specs.Kept.Store.{state_of, IsSound};
 
     ghost Value = { SemaphoreState };
 
@@ -34,14 +35,15 @@ impl Model for Semaphore {
 impl Semaphore {
     /// A semaphore of `permits`, which tokens know by `number`.
     pub fn new(alloc: Global, number: u64, permits: u64) -> Semaphore
-        ensures { result ≡ record { number = number; line = open_line permits; held = 0 } }
+        ensures start { result ≡ new_state number permits }
+        ensures lawful { IsLawful result }
     {
         Semaphore {
             store: Store::new(alloc, number, permits),
         }
     }
 
-    /// Its number (own).
+    /// Its number.
     pub fn number(&self) -> u64
         ensures { result ≡ self.now.number }
     {
@@ -50,42 +52,47 @@ impl Semaphore {
 
     /// How many may be taken without waiting: none while a request waits.
     pub fn available_permits(&self) -> u64
-        ensures { result ≡ available self.now.line }
+        ensures count { result ≡ available self.now.line }
+        ensures lawful { IsLawful self.now }
     {
         self.store.available()
     }
 
-    /// What nobody has, less what is owed (own).
+    /// What nobody has, less what is owed.
     pub fn free(&self) -> i128
-        ensures { result ≡ self.now.line.free }
+        ensures count { result ≡ self.now.line.free }
+        ensures lawful { IsLawful self.now }
     {
         self.store.free()
     }
 
-    /// How many requests wait (own).
+    /// How many requests wait.
     pub fn waiting_count(&self) -> u64
-        ensures { result ≡ length self.now.line.waiting }
+        ensures count { result ≡ length self.now.line.waiting }
+        ensures lawful { IsLawful self.now }
     {
         self.store.waiting_count()
     }
 
-    /// How many permits were granted to requests that have not polled since. It looks at no request (own).
+    /// How many permits were granted to requests that have not polled since. It looks at no request.
     pub fn granted_permits(&self) -> u64
-        ensures { result ≡ total self.now.line.granted }
+        ensures count { result ≡ total self.now.line.granted }
+        ensures lawful { IsLawful self.now }
     {
         self.store.granted_sum()
     }
 
-    /// How many permits tokens stand for (own).
+    /// How many permits tokens stand for.
     pub fn held_permits(&self) -> u64
-        ensures { result ≡ self.now.held }
+        ensures count { result ≡ self.now.held }
+        ensures lawful { IsLawful self.now }
     {
         self.store.held()
     }
 
     /// A request for `n` permits, not polled yet.
     pub fn acquire(&self, n: u64) -> Acquire
-        ensures { result ≡ record { of = self.now.number; size = n; stage = Stage.NotPolled } }
+        ensures { result ≡ new_request self.now.number n }
     {
         Acquire::new(self.number(), n)
     }
@@ -93,10 +100,11 @@ impl Semaphore {
     /// Takes `n` permits if they are there and nobody waits. It never joins the line.
     pub fn try_acquire(&mut self, n: u64) -> Option<SemaphorePermit>
         ensures served { IsSome result ↔ IsTrue (is_served n self.old.line) }
-        ensures permit { IfSome result (λ permit. permit ≡ record { of = self.old.number; count = n }) }
-        ensures some { OnSome result (self.new ≡ record self.old { line = take_permits n self.old.line; held = self.old.held + n }) }
+        ensures permit { IfSome result (λ permit. permit ≡ new_permit self.old.number n) }
+        ensures some { OnSome result (self.new ≡ taken n self.old) }
         ensures none { IfNone result (self.new ≡ self.old) }
-        ensures lawful { IsLawful self.new.line self.new.held }
+        ensures lawful { IsLawful self.new }
+        ensures whole { StaysWhole self.old self.new }
     {
         if self.store.try_serve(n) {
             return Some(SemaphorePermit::new(self.number(), n));
@@ -107,19 +115,22 @@ impl Semaphore {
     /// Takes away what is available, `up_to` at most, and tells how many.
     pub fn drain_permits(&mut self, up_to: u64) -> u64
         ensures count { result ≡ drained up_to self.old.line }
-        ensures state { self.new ≡ record self.old { line = take_permits result self.old.line } }
-        ensures lawful { IsLawful self.new.line self.new.held }
+        ensures state { self.new ≡ reduced result self.old }
+        ensures lawful { IsLawful self.new }
+        ensures whole { (m : ℕ) → IsWhole (m + result) self.old → IsWhole m self.new }
     {
         self.store.drain(up_to)
     }
 
     /// Adds `n` permits, which first pay what is owed. Then the line settles.
     pub fn release<L: Ledger>(&mut self, n: u64, steps: &mut Steps<L>) -> Result<(), ReleaseError>
-        ensures overflow { IsErrOf result ReleaseError.Overflow ↔ IsTrue (overflows n self.old.line self.old.held) }
-        ensures ok { OnOk result (self.new ≡ record self.old { line = give_back n self.old.line }) }
+        ensures overflow { IsErrOf result ReleaseError.Overflow
+            ↔ IsTrue (overflows n self.old.line self.old.held) }
+        ensures ok { OnOk result (self.new ≡ released n self.old) }
         ensures err { OnErr result (self.new ≡ self.old) }
         ensures order { KeepsOrder self.old.line self.new.line }
-        ensures lawful { IsLawful self.new.line self.new.held }
+        ensures lawful { IsLawful self.new }
+        ensures whole { OnOk result ((m : ℕ) → IsWhole m self.old → IsWhole (m + n) self.new) }
     {
         if self.store.release(n) {
             Ok(())
@@ -136,9 +147,9 @@ impl Semaphore {
     ) -> Result<(), ReduceError>
         ensures debt { IsErrOf result ReduceError.Debt ↔ IsTrue (owes_too_much n self.old.line) }
         ensures no_memory { IsErrOf result ReduceError.NoMemory → available self.old.line < n }
-        ensures ok { OnOk result (self.new ≡ record self.old { line = take_permits n self.old.line }) }
+        ensures ok { OnOk result (self.new ≡ reduced n self.old) }
         ensures err { OnErr result (self.new ≡ self.old) }
-        ensures lawful { IsLawful self.new.line self.new.held }
+        ensures lawful { IsLawful self.new }
     {
         if self.store.reduce(n) {
             Ok(())
@@ -158,9 +169,10 @@ impl Semaphore {
         requires held { p.count ≤ self.old.held }
         requires keep { keep ≤ p.count }
         ensures permit { result ≡ record p { count = keep } }
-        ensures state { self.new ≡ record self.old { line = give_back (p.count - keep) self.old.line; held = self.old.held - (p.count - keep) } }
+        ensures state { self.new ≡ given_back (p.count - keep) self.old }
         ensures order { KeepsOrder self.old.line self.new.line }
-        ensures lawful { IsLawful self.new.line self.new.held }
+        ensures lawful { IsLawful self.new }
+        ensures whole { StaysWhole self.old self.new }
     {
         self.store.give_back(p.permits() - keep);
         let kept = SemaphorePermit::new(p.of(), keep);
@@ -172,8 +184,9 @@ impl Semaphore {
     pub fn forget(&mut self, p: SemaphorePermit)
         requires number { p.of ≡ self.old.number }
         requires held { p.count ≤ self.old.held }
-        ensures state { self.new ≡ record self.old { held = self.old.held - p.count } }
-        ensures lawful { IsLawful self.new.line self.new.held }
+        ensures state { self.new ≡ forgotten p.count self.old }
+        ensures lawful { IsLawful self.new }
+        ensures whole { (m : ℕ) → IsWhole (m + p.count) self.old → IsWhole m self.new }
     {
         self.store.forget(p.permits());
         p.lose();
@@ -183,20 +196,20 @@ impl Semaphore {
     pub fn drop_permit<L: Ledger>(&mut self, p: SemaphorePermit, steps: &mut Steps<L>)
         requires number { p.of ≡ self.old.number }
         requires held { p.count ≤ self.old.held }
-        ensures state { self.new ≡ record self.old { line = give_back p.count self.old.line; held = self.old.held - p.count } }
+        ensures state { self.new ≡ given_back p.count self.old }
         ensures order { KeepsOrder self.old.line self.new.line }
-        ensures lawful { IsLawful self.new.line self.new.held }
+        ensures lawful { IsLawful self.new }
+        ensures whole { StaysWhole self.old self.new }
     {
         self.store.give_back(p.permits());
         p.lose();
     }
 
-    /// Takes the oldest waker to wake, if there is one (own).
+    /// Takes the oldest waker to wake, if there is one.
     pub fn take_wake(&mut self) -> Option<Waker>
-        ensures woken { MatchOption result
-            ((self.old.line.wakes ≡ []) × (self.new ≡ self.old))
-            (λ waker. self.old ≡ with_wakes (waker.0 ∷ self.new.line.wakes) self.new) }
-        ensures lawful { IsLawful self.new.line self.new.held }
+        ensures woken { TakesWake self.old result self.new }
+        ensures lawful { IsLawful self.new }
+        ensures whole { StaysWhole self.old self.new }
     {
         self.store.take_wake()
     }
@@ -204,7 +217,7 @@ impl Semaphore {
     /// A first poll: it is served at once, or it joins under a new slot.
     pub(crate) fn enter(&mut self, size: u64, waker: Waker) -> Result<Entrance, AllocError>
         ensures enters { Enters size waker.0 self.old result self.new }
-        ensures lawful { IsLawful self.new.line self.new.held }
+        ensures lawful { IsLawful self.new }
     {
         self.store.enter(size, waker)
     }
@@ -212,24 +225,24 @@ impl Semaphore {
     /// A later poll, which tells how many permits it takes if it was granted.
     pub(crate) fn poll_slot(&mut self, slot: u64, waker: Waker) -> Option<u64>
         ensures polls { PollsSlot slot waker.0 self.old result self.new }
-        ensures lawful { IsLawful self.new.line self.new.held }
+        ensures lawful { IsLawful self.new }
     {
         self.store.poll_slot(slot, waker)
     }
 
     /// Ends the request under this slot. Then the line settles.
     pub(crate) fn cancel(&mut self, slot: u64)
-        ensures state { self.new ≡ record self.old { line = cancel (is_slot slot) self.old.line } }
+        ensures state { self.new ≡ without_request slot self.old }
         ensures others { LeavesOthers slot self.old self.new }
         ensures order { KeepsOrder self.old.line self.new.line }
-        ensures lawful { IsLawful self.new.line self.new.held }
+        ensures lawful { IsLawful self.new }
     {
         self.store.cancel(slot);
     }
 
     /// Does nothing: a caller that changes nothing learns that the line is lawful.
     pub(crate) fn touch(&self)
-        ensures { IsLawful self.now.line self.now.held }
+        ensures { IsLawful self.now }
     {
         let _ = &self.store;
     }

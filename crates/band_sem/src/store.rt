@@ -1,9 +1,9 @@
 //! What a semaphore keeps: its counts, its line, and the wakers to wake.
-ghost use Rattle.std.specs.Prelude.{◌≡◌, ◌+◌, ◌-◌, ◌≤◌, ◌↔◌, false, length, IsTrue, MatchOption, pos, ◌+ℤ◌, [], ◌∷◌};
+ghost use Rattle.std.specs.Prelude.{◌≡◌, ◌+◌, ◌≤◌, ◌↔◌, false, length, IsTrue, pos, ◌+ℤ◌};
 ghost use Rattle.std.specs.Bool.{OnTrue};
-ghost use Rattle.band_balance.specs.Line.{open_line, nobody_waits, total, available, drained, overflows, owes_too_much, is_served, take_permits, settle, give_back, withdraw, cancel, entry_named, poll_waiting};
-ghost use Rattle.band_sem.specs.Semaphore.{is_slot, with_wakes};
-ghost use Rattle.band_sem.specs.Store.{line_of, state_of, IsKept, IsSound, JoinsLine, Enters, PollsSlot, TakesGranted};
+ghost use Rattle.band_balance.specs.Line.{nobody_waits, total, available, drained, overflows, owes_too_much, is_served, settle, withdraw, entry_named};
+ghost use Rattle.band_sem.specs.Semaphore.{is_slot, new_state, taken, given_back, forgotten, released, reduced, with_waker, without_request, TakesWake};
+ghost use Rattle.band_sem.specs.Kept.Store.{line_of, state_of, IsKept, IsSound, JoinsLine, Enters, PollsSlot, TakesGranted};
 
 use crate::balance::Balance;
 use crate::queue::Queue;
@@ -38,7 +38,7 @@ const _: () = prove!(align_of::<Store>() == 8);
 impl Store {
     /// Nobody is in the line, and all permits are free.
     pub(crate) fn new(alloc: Global, number: u64, permits: u64) -> Store
-        ensures state { state_of result ≡ record { number = number; line = open_line permits; held = 0 } }
+        ensures state { state_of result ≡ new_state number permits }
         ensures sound { IsSound result }
     {
         Store {
@@ -113,9 +113,7 @@ impl Store {
     /// Takes the oldest waker to wake.
     pub(crate) fn take_wake(&mut self) -> Option<Waker>
         requires { IsSound self.old }
-        ensures woken { MatchOption result
-            (((state_of self.old).line.wakes ≡ []) × (state_of self.new ≡ state_of self.old))
-            (λ waker. state_of self.old ≡ with_wakes (waker.0 ∷ (state_of self.new).line.wakes) (state_of self.new)) }
+        ensures woken { TakesWake (state_of self.old) result (state_of self.new) }
         ensures sound { IsSound self.new }
     {
         match &mut self.queue {
@@ -134,7 +132,7 @@ impl Store {
     fn serve(&mut self, size: u64)
         requires sound { IsSound self.old }
         requires served { IsTrue (is_served size (line_of self.old)) }
-        ensures state { state_of self.new ≡ record (state_of self.old) { line = take_permits size (line_of self.old); held = self.old.held + size } }
+        ensures state { state_of self.new ≡ taken size (state_of self.old) }
         ensures sound { IsSound self.new }
     {
         self.free = Balance::of(self.free() - i128::from(size));
@@ -145,7 +143,7 @@ impl Store {
     pub(crate) fn try_serve(&mut self, size: u64) -> bool
         requires { IsSound self.old }
         ensures served { result ≡ is_served size (line_of self.old) }
-        ensures yes { OnTrue result (state_of self.new ≡ record (state_of self.old) { line = take_permits size (line_of self.old); held = self.old.held + size }) }
+        ensures yes { OnTrue result (state_of self.new ≡ taken size (state_of self.old)) }
         ensures no { result ≡ false → state_of self.new ≡ state_of self.old }
         ensures sound { IsSound self.new }
     {
@@ -160,7 +158,7 @@ impl Store {
     fn take(&mut self, count: u64)
         requires sound { IsSound self.old }
         requires debt { owes_too_much count (line_of self.old) ≡ false }
-        ensures state { state_of self.new ≡ record (state_of self.old) { line = take_permits count (line_of self.old) } }
+        ensures state { state_of self.new ≡ reduced count (state_of self.old) }
         ensures sound { IsSound self.new }
     {
         self.free = Balance::of(self.free() - i128::from(count));
@@ -170,7 +168,7 @@ impl Store {
     pub(crate) fn drain(&mut self, up_to: u64) -> u64
         requires { IsSound self.old }
         ensures count { result ≡ drained up_to (line_of self.old) }
-        ensures state { state_of self.new ≡ record (state_of self.old) { line = take_permits result (line_of self.old) } }
+        ensures state { state_of self.new ≡ reduced result (state_of self.old) }
         ensures sound { IsSound self.new }
     {
         let count = up_to.min(self.available());
@@ -189,7 +187,7 @@ impl Store {
     pub(crate) fn reduce(&mut self, count: u64) -> bool
         requires { IsSound self.old }
         ensures debt { result ≡ false ↔ IsTrue (owes_too_much count (line_of self.old)) }
-        ensures yes { OnTrue result (state_of self.new ≡ record (state_of self.old) { line = take_permits count (line_of self.old) }) }
+        ensures yes { OnTrue result (state_of self.new ≡ reduced count (state_of self.old)) }
         ensures no { result ≡ false → state_of self.new ≡ state_of self.old }
         ensures sound { IsSound self.new }
     {
@@ -262,7 +260,7 @@ impl Store {
     fn add(&mut self, count: u64)
         requires sound { IsSound self.old }
         requires fits { overflows count (line_of self.old) self.old.held ≡ false }
-        ensures state { state_of self.new ≡ record (state_of self.old) { line = give_back count (line_of self.old) } }
+        ensures state { state_of self.new ≡ released count (state_of self.old) }
         ensures sound { IsSound self.new }
     {
         self.free = Balance::of(self.free() + i128::from(count));
@@ -273,7 +271,7 @@ impl Store {
     pub(crate) fn release(&mut self, count: u64) -> bool
         requires { IsSound self.old }
         ensures overflow { result ≡ false ↔ IsTrue (overflows count (line_of self.old) self.old.held) }
-        ensures yes { OnTrue result (state_of self.new ≡ record (state_of self.old) { line = give_back count (line_of self.old) }) }
+        ensures yes { OnTrue result (state_of self.new ≡ released count (state_of self.old)) }
         ensures no { result ≡ false → state_of self.new ≡ state_of self.old }
         ensures sound { IsSound self.new }
     {
@@ -288,7 +286,7 @@ impl Store {
     pub(crate) fn forget(&mut self, count: u64)
         requires sound { IsSound self.old }
         requires held { count ≤ self.old.held }
-        ensures state { state_of self.new ≡ record (state_of self.old) { held = self.old.held - count } }
+        ensures state { state_of self.new ≡ forgotten count (state_of self.old) }
         ensures sound { IsSound self.new }
     {
         self.held -= count;
@@ -298,7 +296,7 @@ impl Store {
     pub(crate) fn give_back(&mut self, count: u64)
         requires sound { IsSound self.old }
         requires held { count ≤ self.old.held }
-        ensures state { state_of self.new ≡ record (state_of self.old) { line = give_back count (line_of self.old); held = self.old.held - count } }
+        ensures state { state_of self.new ≡ given_back count (state_of self.old) }
         ensures sound { IsSound self.new }
     {
         self.forget(count);
@@ -320,7 +318,7 @@ impl Store {
     /// A request that waits under this slot, if there is one, leaves its new waker.
     fn leave_waker(&mut self, slot: u64, waker: Waker)
         requires { IsSound self.old }
-        ensures state { state_of self.new ≡ record (state_of self.old) { line = poll_waiting (is_slot slot) waker.0 (line_of self.old) } }
+        ensures state { state_of self.new ≡ with_waker slot waker.0 (state_of self.old) }
         ensures sound { IsSound self.new }
     {
         if let Some(queue) = &mut self.queue {
@@ -372,7 +370,7 @@ impl Store {
     /// Ends the request under this slot. Then the line settles.
     pub(crate) fn cancel(&mut self, slot: u64)
         requires { IsSound self.old }
-        ensures state { state_of self.new ≡ record (state_of self.old) { line = cancel (is_slot slot) (line_of self.old) } }
+        ensures state { state_of self.new ≡ without_request slot (state_of self.old) }
         ensures sound { IsSound self.new }
     {
         self.withdraw(slot);

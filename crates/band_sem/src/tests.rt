@@ -1,8 +1,9 @@
 //! What no clause says: that calls succeed, in small lives of a semaphore, and the texts of errors.
 ghost use Rattle.std.specs.Prelude.{◌≡◌, ◌+◌, ◌<◌, ◌≤◌, IsTrue};
-ghost use Rattle.band_balance.specs.Line.{give_back, is_served, take_permits};
+ghost use Rattle.band_balance.specs.Line.{is_served};
 ghost use Rattle.band_base.specs.declared.poll.Poll.TheVariants as poll;
-ghost use Rattle.band_sem.specs.Semaphore.{IsLawful, IsOwn, Polls};
+ghost use Rattle.band_sem.specs.Permit.{new_permit};
+ghost use Rattle.band_sem.specs.Semaphore.{IsLawful, IsOwn, Polls, taken, released};
 
 use crate::{Acquire, MergeError, ReduceError, ReleaseError, Semaphore, SemaphorePermit};
 use band_base::{Poll, PollError, Steps, Waker};
@@ -23,7 +24,7 @@ fn pends<L: Ledger, R: Abort>(
     requires number { request.old.of ≡ sem.old.number }
     requires own { IsOwn request.old.stage request.old.size sem.old.line }
     ensures polls { Polls request.old waker.0 sem.old (Ok poll.Pending) request.new sem.new }
-    ensures lawful { IsLawful sem.new.line sem.new.held }
+    ensures lawful { IsLawful sem.new }
 {
     match request.poll_once(sem, waker, steps) {
         Ok(Poll::Pending) => {}
@@ -46,7 +47,7 @@ fn gets<L: Ledger, R: Abort>(
     requires number { request.old.of ≡ sem.old.number }
     requires own { IsOwn request.old.stage request.old.size sem.old.line }
     ensures polls { Polls request.old waker.0 sem.old (Ok (poll.Ready result)) request.new sem.new }
-    ensures lawful { IsLawful sem.new.line sem.new.held }
+    ensures lawful { IsLawful sem.new }
 {
     match request.poll_once(sem, waker, steps) {
         Ok(Poll::Ready(permit)) => permit,
@@ -58,7 +59,7 @@ fn gets<L: Ledger, R: Abort>(
 /// Asks for one permit, gives it back at once, and tells whether there was one to be had without waiting.
 fn knock<L: Ledger>(sem: &mut Semaphore, waker: Waker, steps: &mut Steps<L>) -> bool
     ensures served { IsTrue result → IsTrue (is_served 1 sem.old.line) }
-    ensures lawful { IsLawful sem.new.line sem.new.held }
+    ensures lawful { IsLawful sem.new }
 {
     let mut request = sem.acquire(1);
     match request.poll_once(sem, waker, steps) {
@@ -114,8 +115,8 @@ fn the_first_gives_up(rt: HostRuntime) {
 
 /// Adds permits.
 fn adds<L: Ledger, R: Abort>(rt: &R, sem: &mut Semaphore, n: u64, steps: &mut Steps<L>)
-    ensures state { sem.new ≡ record sem.old { line = give_back n sem.old.line } }
-    ensures lawful { IsLawful sem.new.line sem.new.held }
+    ensures state { sem.new ≡ released n sem.old }
+    ensures lawful { IsLawful sem.new }
 {
     if let Err(error) = sem.release(n, steps) {
         panic!(rt; "{error}");
@@ -124,9 +125,9 @@ fn adds<L: Ledger, R: Abort>(rt: &R, sem: &mut Semaphore, n: u64, steps: &mut St
 
 /// Takes permits that are there.
 fn takes<R: Abort>(rt: &R, sem: &mut Semaphore, n: u64) -> SemaphorePermit
-    ensures permit { result ≡ record { of = sem.old.number; count = n } }
-    ensures state { sem.new ≡ record sem.old { line = take_permits n sem.old.line; held = sem.old.held + n } }
-    ensures lawful { IsLawful sem.new.line sem.new.held }
+    ensures permit { result ≡ new_permit sem.old.number n }
+    ensures state { sem.new ≡ taken n sem.old }
+    ensures lawful { IsLawful sem.new }
 {
     match sem.try_acquire(n) {
         Some(permit) => permit,

@@ -1,5 +1,5 @@
 //! Devices that watch their pieces.
-ghost use Rattle.std.specs.Prelude.{◌≡◌, ◌<◌, ◌≤◌, length, None, IfOk, OnErr, Err};
+ghost use Rattle.std.specs.Prelude.{◌≡◌, ◌<◌, ◌≤◌, length, None, true, IfOk, OnErr, Err};
 ghost use Rattle.band_base.specs.Device.{Rose};
 
 use band_base::{BytesIn, BytesOut, Sink, SinkError, Source, SourceFailed};
@@ -31,6 +31,8 @@ impl Sink for Lasts {
 
     ghost faults = { λ _. 0 };
 
+    ghost grows = { true };
+
     fn write(&mut self, piece: &[u8]) -> Result<usize, SinkError> {
         self.0.write(&piece[piece.len().saturating_sub(1)..])?;
         Ok(piece.len())
@@ -45,6 +47,8 @@ impl Sink for Full {
     ghost written = { λ _. None };
 
     ghost faults = { λ _. 0 };
+
+    ghost grows = { true };
 
     fn write(&mut self, _piece: &[u8]) -> Result<usize, SinkError> {
         Err(SinkError::NoMemory)
@@ -62,6 +66,8 @@ impl Sink for FullOnce {
     ghost written = { λ _. None };
 
     ghost faults = { λ _. 0 };
+
+    ghost grows = { true };
 
     fn write(&mut self, piece: &[u8]) -> Result<usize, SinkError> {
         if !self.was_full {

@@ -1,6 +1,6 @@
 //! Whole scripts, and what they come to.
 
-use crate::examples::{EXAMPLES, FIRST, FIRST_OUT, LOCKS, LOCKS_OUT, make_burst};
+use crate::examples::{FIRST, FIRST_OUT, LOCKS, LOCKS_OUT, make_burst};
 use crate::playing::{compare, play_on, play_word, run_on};
 use band_base::{BytesIn, BytesOut, Source};
 use std::test::Fail;
@@ -87,14 +87,6 @@ fn plays_on_locks(rt: HostRuntime) -> Result<(), Fail> {
         ),
     ];
     for (script, written) in table {
-        compare(&rt, rt.alloc(), script, written)?;
-    }
-    Ok(())
-}
-
-#[test]
-fn plays_what_the_documents_show(rt: HostRuntime) -> Result<(), Fail> {
-    for (script, written) in EXAMPLES {
         compare(&rt, rt.alloc(), script, written)?;
     }
     Ok(())

@@ -64,20 +64,6 @@ fn tells_why(rt: HostRuntime) -> Result<(), Fail> {
 }
 
 #[test]
-fn tells_that_it_is_too_long(rt: HostRuntime) -> Result<(), Fail> {
-    let mut script = Vec::with_capacity(rt.alloc(), 16_777_217)?;
-    script.resize(16_777_217, b'a')?;
-    let mut streams = Streams {
-        src: BytesIn::new(&script),
-        dst: BytesOut::new(rt.alloc()),
-        err: BytesOut::new(rt.alloc()),
-    };
-    assert_eq!(rt; run_over(rt.alloc(), "play", &mut streams)?, 4);
-    assert_eq!(rt; streams.err.bytes(), b"too long\n".as_slice());
-    Ok(())
-}
-
-#[test]
 fn tells_of_faults(rt: HostRuntime) -> Result<(), Fail> {
     let mut streams = Streams {
         src: FailingIn::new(b"sem s 1\n", 4096, &[2]),

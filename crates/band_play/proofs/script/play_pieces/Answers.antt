@@ -2,7 +2,8 @@ use Rattle.std.proofs.Common.{◌≤◌, [], length, ap, length-take, arith}
 use Rattle.std.proofs.lemmas.Result.{err_from_is_err_and}
 use Rattle.band_play.specs.Answers.{Counts}
 use Rattle.band_play.proofs.Answering.{front_so_far, front_at_end, front_fault, front_over, answers_read, answers_end, answers_over, answers_fault, so_far_more, takes_so_far, keeps_up, keeps_up_still, none_in}
-use Rattle.band_play.proofs.Devices.{adds_nothing, takes_piece}
+use Rattle.std.proofs.KnownBytes.{Appends-nil}
+use Rattle.band_play.proofs.Devices.{takes_piece}
 use Rattle.band_play.proofs.script.play_pieces.Goals as goal
 
 pub returns-in_err-given-clause-answers : goal.returns-in_err-given-clause-answers
@@ -46,7 +47,7 @@ pieces-preserved g c =
     }
 
 pub returns-in_err-given-clause-front : goal.returns-in_err-given-clause-front
-returns-in_err-given-clause-front g c = rw c.in_err-given.ensures.err (front_so_far _ _ c.pieces.playing _ _ _ _ c.pieces.invariant.so_far)
+returns-in_err-given-clause-front g c = front_so_far _ _ c.pieces.playing _ _ _ _ _ c.pieces.invariant.so_far c.in_err-given.ensures.err
 
 pub returns-then-is_empty-clause-front : goal.returns-then-is_empty-clause-front
 returns-then-is_empty-clause-front g c =
@@ -65,7 +66,7 @@ returns-in_err-given-clause-keeps_up g c = keeps_up_still _ _ c.pieces.playing _
 
 pub returns-then-is_empty-clause-keeps_up : goal.returns-then-is_empty-clause-keeps_up
 returns-then-is_empty-clause-keeps_up g c =
-    keeps_up _ _ c.in_ok-given.given.now [] c.pieces.playing _ _ _ _ _ _ c.pieces.invariant.so_far c.in_ok-given.ensures.front c.in_ok-given.ensures.fits (adds_nothing (g.D.Sink.written c.pieces.dst))
+    keeps_up _ _ c.in_ok-given.given.now [] c.pieces.playing _ _ _ _ _ _ c.pieces.invariant.so_far c.in_ok-given.ensures.front c.in_ok-given.ensures.fits (Appends-nil (g.D.Sink.written c.pieces.dst))
 
 pub returns-in_err-feed-clause-keeps_up : goal.returns-in_err-feed-clause-keeps_up
 returns-in_err-feed-clause-keeps_up g c =

@@ -2,7 +2,7 @@ use Rattle.std.proofs.Common.{◌≡◌, ℕ, Some, Ok, ap, refl, sym, ◌∙◌
 use Rattle.std.specs.List.{slice_get, slice_set}
 use Rattle.std.proofs.lemmas.Option.{slice_get_read}
 use Rattle.band_base.specs.declared.poll.Poll.TheVariants as polls
-use Rattle.band_sem.specs.declared.acquire.Stage.TheVariants.{NotPolled}
+use Rattle.band_sem.specs.Request.{NotPolled}
 use Rattle.band_play.specs.Objects.{RequestState, Fits}
 use Rattle.band_play.specs.declared.reply.Reply.TheVariants as replies
 use Rattle.band_play.specs.Thing as things

@@ -1,7 +1,7 @@
 use Rattle.std.proofs.Common.{ℕ, [], Option, subst}
 use Rattle.std.proofs.lemmas.Result.{err_from_is_err_and}
 use Rattle.band_play.specs.Playing.{RunsPiece}
-use Rattle.band_play.proofs.Devices.{adds_nothing}
+use Rattle.std.proofs.KnownBytes.{Appends-nil}
 use Rattle.band_play.proofs.Pieces.{piece_played, piece_malformed, piece_unwritten, piece_unfinished}
 use Rattle.band_play.proofs.playing.Playing.feed.Goals as goal
 
@@ -26,10 +26,10 @@ returns-in-Some-clause-stops g c = λ given start played.
     piece_malformed c.args.piece.now c.in-Some.line c.args.self.now c.run_lines.new.self _ _ (subst P c.in-Some.is c.in_ok-malformed.ensures.runs) c.in_ok-write_text.ensures.ok given start played
 
 pub returns-in_err-malformed-clause-adds : goal.returns-in_err-malformed-clause-adds
-returns-in_err-malformed-clause-adds g c = ([], adds_nothing (g.D.Sink.written c.args.dst.now))
+returns-in_err-malformed-clause-adds g c = ([], Appends-nil (g.D.Sink.written c.args.dst.now))
 
 pub returns-in_err-write_text-clause-adds : goal.returns-in_err-write_text-clause-adds
-returns-in_err-write_text-clause-adds g c = (c.in_err-write_text.ensures.err.front, c.in_err-write_text.ensures.err.added)
+returns-in_err-write_text-clause-adds g c = (c.in_err-write_text.ensures.err.prefix, c.in_err-write_text.ensures.err.appended)
 
 pub returns-in-None-clause-adds : goal.returns-in-None-clause-adds
 returns-in-None-clause-adds g c = (_, c.in_ok-write_text.ensures.ok)

@@ -34,7 +34,7 @@ returns c =
     let within = object_in c.args.self.now c.args.name.now c.in-Ok.place c.requires.sound object in
     let there : slice_get c.args.self.now.objects.items c.in-Ok.place ≡ Some sem = slice_get_read c.args.self.now.objects.items _ c.in-Ok.place sem refl within c.index.ensures in
     subst (λ (r : Reply). Follows (λ state. showing (standing c.args.name.now state) state) c.args.self.now r c.args.self.now)
-    (sym (same_figures _ _ _ _ _ _ _ _ _ _ (c.available_permits.ensures ∙ ap (λ (s : SemaphoreState). available s.line) same) (to_z-of_z fits ∙ c.free.ensures ∙ ap (λ (s : SemaphoreState). s.line.free) same)
-    (c.waiting_count.ensures ∙ ap (λ (s : SemaphoreState). length s.line.waiting) same) (c.granted_permits.ensures ∙ ap (λ (s : SemaphoreState). total s.line.granted) same) (c.held_permits.ensures ∙ ap (λ (s : SemaphoreState). s.held) same)))
+    (sym (same_figures _ _ _ _ _ _ _ _ _ _ (c.available_permits.ensures.count ∙ ap (λ (s : SemaphoreState). available s.line) same) (to_z-of_z fits ∙ c.free.ensures.count ∙ ap (λ (s : SemaphoreState). s.line.free) same)
+    (c.waiting_count.ensures.count ∙ ap (λ (s : SemaphoreState). length s.line.waiting) same) (c.granted_permits.ensures.count ∙ ap (λ (s : SemaphoreState). total s.line.granted) same) (c.held_permits.ensures.count ∙ ap (λ (s : SemaphoreState). s.held) same)))
     (shows c.args.self.now c.requires.sound c.requires.quiet (λ state. showing (standing c.args.name.now state) state) _ c.args.self.now c.in-Ok.place sem there (λ n. refl) refl
     (λ names state stands. status_follows names _ _ state stands c.args.name.now c.in-Ok.place sem object there (quiet_there c.args.self.now c.requires.sound c.requires.quiet c.in-Ok.place sem there)))

@@ -5,7 +5,7 @@ use mir.Syntax.{w128}
 use mir.Val.{SFits}
 use Rattle.std.proofs.lemmas.List.{length-drop}
 use Rattle.band_balance.specs.Line.{Waiting}
-use Rattle.band_sem.specs.Queue.{head_fits}
+use Rattle.band_sem.specs.Kept.Queue.{head_fits}
 use Rattle.band_sem.proofs.Orderly.{head_asks, settle-grant, IsInOrder-grant}
 use Rattle.band_sem.proofs.queue.Queue.grant_first.Goals as goal
 

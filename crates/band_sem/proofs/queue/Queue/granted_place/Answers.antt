@@ -1,7 +1,7 @@
 use Rattle.std.proofs.Common.{take, drop, arith, ap, sym, ◌∙◌, Option, Some, None}
 use Rattle.std.specs.Prelude.{IfNone}
 use Rattle.std.proofs.lemmas.List.{take-append-drop, get_or_default}
-use Rattle.band_sem.specs.Queue.{is_there}
+use Rattle.band_sem.specs.Kept.Queue.{is_there}
 use Rattle.band_sem.proofs.Places.{entry_named-not_there, entry_named-nobody, NobodyHas-parts, nowhere}
 use Rattle.band_sem.proofs.queue.Queue.granted_place.Goals as goal
 use Rattle.band_sem.proofs.queue.Queue.granted_place.Goals.{then-place-self-via-then-place-self, then-place-self-via-else-place-self+then-not-is_there}

@@ -1,7 +1,7 @@
 use Rattle.std.proofs.Common.{◌≡◌, ℕ, ◌<◌, IsTrue, take, drop, arith, ap}
 use Rattle.std.proofs.lemmas.Bool.Decides.{nat_tests}
 use Rattle.std.proofs.lemmas.List.{take-append-drop}
-use Rattle.band_sem.specs.Queue.{is_there, slots, slot_after}
+use Rattle.band_sem.specs.Kept.Queue.{is_there, slots, slot_after}
 use Rattle.band_sem.proofs.Slots.{NobodyHas-after}
 use Rattle.band_sem.proofs.Places.{entry_named-nobody_at_all}
 use Rattle.band_sem.proofs.Orderly.{state_at-join, IsInOrder-join}

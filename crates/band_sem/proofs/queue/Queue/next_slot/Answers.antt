@@ -1,7 +1,7 @@
 use Rattle.std.proofs.Common.{◌≡◌, ℕ, ◌+◌, ◌<◌, ◌^◌, length, true, ap, arith, sym, ◌∙◌, Option, Some, None}
 use Rattle.std.specs.Prelude.{IfOk, SomeIff}
 use Rattle.std.specs.Option.{ok_or}
-use Rattle.band_sem.specs.Queue.{slots, slot_after}
+use Rattle.band_sem.specs.Kept.Queue.{slots, slot_after}
 use Rattle.band_sem.proofs.Slots.{slot_after-back}
 use Rattle.band_sem.proofs.queue.Queue.next_slot.Goals as goal
 

@@ -1,7 +1,7 @@
 -- proofs/queue/Queue/settle: what settling gives stays the same, and each turn leaves one less that waits
 use Rattle.std.proofs.Common.{◌≡◌, length, pos, ◌+ℤ◌, ◌≤ℤ◌}
 use Rattle.band_balance.specs.Line.{settle, total, u64_max}
-use Rattle.band_sem.specs.Queue.{queue_state, line_at, IsOrderly}
+use Rattle.band_sem.specs.Kept.Queue.{queue_state, line_at, IsOrderly}
 use Rattle.band_sem.proofs.queue.Queue.settle.Given as goal
 
 abbrev pub invariant-loop-self : goal.invariant-loop-self

@@ -2,7 +2,7 @@ use Rattle.std.proofs.Common.{◌≡◌, ℕ, true, refl, get_or, take, arith, a
 use Rattle.std.proofs.lemmas.List.{length-take-le, get_or-take}
 use Rattle.band_balance.specs.Line.{Entry}
 use Rattle.band_sem.specs.Semaphore.{is_slot}
-use Rattle.band_sem.specs.Queue.{is_there}
+use Rattle.band_sem.specs.Kept.Queue.{is_there}
 use Rattle.band_sem.proofs.Places.{IsFirst-slot, IsFirst-take, entry_named-first, without-first, total-remove, nowhere}
 use Rattle.band_sem.proofs.queue.Queue.take_granted.Goals as goal
 

@@ -2,7 +2,7 @@ use Rattle.std.proofs.Common.{◌≡◌, ℕ, ◌+◌, ◌-◌, ◌<◌, List, g
 use Rattle.std.specs.List.{remove}
 use Rattle.std.proofs.lemmas.List.{length-take-le, get_or-take}
 use Rattle.band_balance.specs.Line.{Waiting, total}
-use Rattle.band_sem.specs.Queue.{IsInOrder, there, is_there}
+use Rattle.band_sem.specs.Kept.Queue.{IsInOrder, there, is_there}
 use Rattle.band_sem.proofs.Places.{OnSome-holds, total-remove}
 use Rattle.band_sem.proofs.Orderly.{state_at-remove_woken, IsInOrder-remove_front, woken_there-remove, state_at-vacate, IsInOrder-vacate}
 use Rattle.band_sem.proofs.queue.Queue.take_out.Goals as goal

@@ -2,7 +2,7 @@ use Rattle.std.proofs.Common.{◌≡◌, ℕ, ◌<◌, ◌≤◌, false, length,
 use Rattle.std.specs.List.{remove}
 use Rattle.std.proofs.lemmas.List.{length-take-le, get_or-take}
 use Rattle.band_balance.specs.Line.{total}
-use Rattle.band_sem.specs.Queue.{is_there, there}
+use Rattle.band_sem.specs.Kept.Queue.{is_there, there}
 use Rattle.band_sem.proofs.Places.{OnSome-holds, there-remove}
 use Rattle.band_sem.proofs.Orderly.{state_at-wake_gone, IsInOrder-remove_front, IsInOrder-wake, woken_there-gone}
 use Rattle.band_sem.proofs.queue.Queue.take_wake.Goals as goal

@@ -1,11 +1,16 @@
-use Rattle.std.proofs.Common.{ap}
-use Rattle.band_sem.specs.Store.{line_of}
-use Rattle.band_sem.proofs.Lawful.{lawful_when_sound}
+use Rattle.std.proofs.Common.{ap, ap₂, ◌∙◌}
+use Rattle.band_sem.specs.Semaphore.{given_back}
+use Rattle.band_sem.proofs.Whole.{StaysWhole-given_back}
+use Rattle.band_sem.specs.Kept.Store.{line_of}
 use Rattle.band_sem.proofs.Laws.{KeepsOrder-gives_back}
+use Rattle.band_sem.proofs.Lawful.{lawful_when_sound}
 use Rattle.band_sem.proofs.semaphore.Semaphore.drop_permit.Goals as goal
-
-pub returns-clause-lawful : goal.returns-clause-lawful
-returns-clause-lawful g c = lawful_when_sound _ c.give_back.ensures.sound
 
 pub returns-clause-order : goal.returns-clause-order
 returns-clause-order g c = KeepsOrder-gives_back c.permits.result (line_of c.self.inside.store) _ _ (ap (λ s. s.line) c.self.view_is) (ap (λ s. s.line) c.give_back.ensures.state)
+
+pub returns-clause-whole : goal.returns-clause-whole
+returns-clause-whole g c = StaysWhole-given_back c.args.self.now _ c.args.p.count c.requires.held (c.give_back.ensures.state ∙ ap₂ given_back c.permits.ensures c.self.view_is)
+
+pub returns-clause-lawful : goal.returns-clause-lawful
+returns-clause-lawful g c = lawful_when_sound _ c.give_back.ensures.sound

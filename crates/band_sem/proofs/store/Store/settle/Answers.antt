@@ -7,8 +7,8 @@ use Rattle.std.proofs.lemmas.Int.{ints, to_z-of_z}
 use mir.Syntax.{w128}
 use mir.Val.{SFits, to_z, of_z}
 use Rattle.band_balance.specs.Line.{settle}
-use Rattle.band_sem.specs.Queue.{queue_state, line_at, IsOrderly}
-use Rattle.band_sem.specs.Store.{queue_of, IsKept, IsSound}
+use Rattle.band_sem.specs.Kept.Queue.{queue_state, line_at, IsOrderly}
+use Rattle.band_sem.specs.Kept.Store.{queue_of, IsKept, IsSound}
 use Rattle.band_sem.specs.declared.queue.Queue.{Queue}
 use Rattle.band_sem.specs.declared.store.Store.{Store}
 use Rattle.band_sem.proofs.Line.{CountsFit, CountsFit-settles, HeadWaits-settles}

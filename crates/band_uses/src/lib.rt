@@ -1,0 +1,10 @@
+//! The callers that the documents show, each proved from the public contracts alone.
+#![tactic(auto)]
+
+pub mod counter;
+pub mod devices;
+pub mod locks;
+pub mod places;
+pub mod refusals;
+pub mod scripts;
+pub mod semaphores;

@@ -1,0 +1,22 @@
+//! A call of a script.
+ghost use Rattle.std.specs.Prelude.{◌≡◌, [], IfOk};
+ghost use Rattle.band_play.specs.Player.{Follows, ForReaders, wakers_left};
+ghost use Rattle.band_play.specs.Step.{step};
+
+use band_base::Steps;
+use band_play::{Call, Player, Reply};
+use std::alloc::AllocError;
+use std::sync::ledger::Ledger;
+
+/// Runs a call of a script.
+pub fn run_call<L: Ledger>(
+    player: &mut Player,
+    call: &Call,
+    steps: &mut Steps<L>,
+) -> Result<Reply, AllocError>
+    requires quiet { wakers_left player.old ≡ [] }
+    requires readers { ForReaders call.now }
+    ensures { IfOk result (λ reply. Follows (step call.now) player.old reply player.new) }
+{
+    player.step(call, steps)
+}
