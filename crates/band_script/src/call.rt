@@ -117,7 +117,7 @@ pub enum Call {
 
 impl Call {
     /// The same call again. It takes no memory.
-    pub(crate) fn copy(&self) -> Call
+    pub fn copy(&self) -> Call
         ensures { result ≡ self.now }
     {
         self.clone().unwrap()
