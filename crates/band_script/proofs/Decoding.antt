@@ -11,7 +11,7 @@ use Rattle.std.proofs.lemmas.Slice.Eq.{bytes_eq-Decides}
 use Rattle.band_script.specs.declared.call.Call.{Call}
 use Rattle.band_script.specs.declared.call.Call.TheVariants.{Sem, Mutex, Rw, Ask, Lock, Read, Write, Poll, Drop, Try, TryLock, TryRead, TryWrite, Release, Reduce, Drain, Forget, Split, Merge, Downgrade, Status}
 use Rattle.band_script.specs.Call.{IsCall, is_call, parts, spelling}
-use Rattle.band_script.specs.Grammar.{IsLine, call_of, is_line, readings, words_of}
+use Rattle.band_script.specs.Grammar.{IsLine, call_of, is_line, line_of, readings, words_of}
 use Rattle.band_script.specs.Inner.Reading.{Decodes}
 use Rattle.band_script.specs.Number.{is_number}
 use Rattle.band_script.proofs.GrammarLemmas.{line_words, operands_are}
@@ -29,9 +29,9 @@ found_is_line line (first ∷ calls) call found = by_test (is_line line first) r
     by_test false is found rest = rest found
 
 -- a call is chosen where it is the line's
-chosen : (call first : Call) (others : Option Call) → first ≡ call → IsCall call → cond (is_line (join_with_byte 32 (spelling call)) first) (Some first) others ≡ Some call
+chosen : (call first : Call) (others : Option Call) → first ≡ call → IsCall call → cond (is_line (line_of call) first) (Some first) others ≡ Some call
 chosen call first others same is =
-    let line = join_with_byte 32 (spelling call) in
+    let line = line_of call in
     let own : is_line line call ≡ true = and_from _ _ ((bytes_eq-Decides line line).1 refl) is in
     rw (same, own) refl
 
@@ -39,7 +39,7 @@ chosen call first others same is =
 value : (n : ℕ) (others : Bool) → (is_number n && others) ≡ true → digits_value 10 (decimal n) ≡ n
 value n others are = value_of_number n (and_parts _ _ are).0
 
-own_reading : (call : Call) → IsCall call → find (is_line (join_with_byte 32 (spelling call))) (readings (spelling call)) ≡ Some call
+own_reading : (call : Call) → IsCall call → find (is_line (line_of call)) (readings (spelling call)) ≡ Some call
 own_reading (Sem made n) is = chosen (Sem made n) _ _ (ap (Sem made) (value n _ (operands_are (Sem made n) is).1)) is
 own_reading (Poll name waker) is = chosen (Poll name waker) _ _ (ap (Poll name) (value waker _ (operands_are (Poll name waker) is).1)) is
 own_reading (Release of n) is = chosen (Release of n) _ _ (ap (Release of) (value n _ (operands_are (Release of n) is).1)) is

@@ -21,7 +21,7 @@ use Rattle.band_script.specs.declared.form.TwoNames.TheVariants as two_names
 use Rattle.band_script.specs.declared.form.TwoNamesNumber.{TwoNamesNumber}
 use Rattle.band_script.specs.declared.form.TwoNamesNumber.TheVariants as two_names_number
 use Rattle.band_script.specs.Call.{Parts, are_operands, operands, parts, spelling, written, IsCall, is_call, has_readers}
-use Rattle.band_script.specs.Grammar.{words_of, IsLine}
+use Rattle.band_script.specs.Grammar.{words_of, line_of, IsLine}
 use Rattle.band_script.specs.Inner.Forms.{word_of, IsWritten}
 use Rattle.band_script.specs.Inner.Reading.{Decodes, ReadsNameNumber, ReadsNameOption, ReadsOneName, ReadsTwoNames, ReadsTwoNamesNumber, ReadsTwoNamesTwoNumbers}
 use Rattle.band_script.specs.Name.{is_name}
@@ -47,7 +47,7 @@ call_word (calls.Rw made (Some n)) = refl
 call_word call = refl
 
 -- a call begins with it and a space
-pub begins : (call : Call) → join_with_byte 32 (spelling call) ≡ (parts call).form ++ 32 ∷ join_with_byte 32 (operands (parts call).names (parts call).numbers)
+pub begins : (call : Call) → line_of call ≡ (parts call).form ++ 32 ∷ join_with_byte 32 (operands (parts call).names (parts call).numbers)
 begins (calls.Rw made (Some n)) = refl
 begins call = refl
 

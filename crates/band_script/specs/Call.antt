@@ -40,7 +40,7 @@ parts (Merge kept spent) = written (codes "merge") (kept ∷ spent ∷ []) []
 parts (Downgrade name) = written (codes "downgrade") (name ∷ []) []
 parts (Status name) = written (codes "status") (name ∷ []) []
 
--- the words after that of the form
+-- the words after that of the form: a number is written in decimal
 abbrev pub operands : List (List ℕ) → List ℕ → List (List ℕ)
 operands names numbers = names ++ map decimal numbers
 
@@ -48,7 +48,7 @@ operands names numbers = names ++ map decimal numbers
 abbrev pub spelling : Call → List (List ℕ)
 spelling call = (parts call).form ∷ operands (parts call).names (parts call).numbers
 
--- names that are some, and numbers
+-- each name is one, and each number
 abbrev pub are_operands : List (List ℕ) → List ℕ → Bool
 are_operands names numbers = list_all is_name names && list_all is_number numbers
 
@@ -60,7 +60,7 @@ has_readers call = true
 abbrev pub ForReaders : Call → Type 0
 ForReaders call = IsTrue (has_readers call)
 
--- a call that a script can write
+-- a call that a line can stand for
 abbrev pub is_call : Call → Bool
 is_call call = are_operands (parts call).names (parts call).numbers && has_readers call
 

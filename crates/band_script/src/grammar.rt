@@ -10,7 +10,7 @@ ghost use Rattle.band_script.specs.Inner.Forms.{word_of};
 use crate::Call;
 use crate::form::{Form, NameNumber, OneName, TwoNames, TwoNamesNumber, split_form};
 use crate::operands::{
-    name_option, name_number, one_name, two_names, two_names_number, two_names_two_numbers,
+    name_number, name_option, one_name, two_names, two_names_number, two_names_two_numbers,
 };
 
 /// The call that a line, given without its newline, stands for, if it stands for one.

@@ -26,7 +26,11 @@ fn shows_calls(rt: HostRuntime) -> Result<(), Fail> {
     ];
     for (line, shown) in table {
         let call = parse_line(line.as_bytes());
-        assert_eq!(rt; format!(in rt.alloc(); "{call:?}")?.as_str(), shown, "at {line}");
+        assert_eq!(rt;
+            format!(in rt.alloc(); "{call:?}")?.as_str(),
+            shown,
+            "at {line}"
+        );
     }
     Ok(())
 }
