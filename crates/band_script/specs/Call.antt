@@ -3,7 +3,8 @@ use Rattle.std.specs.Prelude.{ℕ, Bool, true, ◌&&◌, nat_lt, List, [], ◌�
 use Rattle.std.specs.Fmt.{decimal}
 use Rattle.std.specs.List.{list_all}
 use Rattle.band_script.specs.declared.call.Call.{Call}
-use Rattle.band_script.specs.declared.call.Call.TheVariants.{Sem, Mutex, Rw, Ask, Lock, Read, Write, Poll, Drop, Try, TryLock, TryRead, TryWrite, Release, Reduce, Drain, Forget, Split, Merge, Downgrade, Status}
+use Rattle.band_script.specs.declared.call.Call.TheVariants.{Sem, Mutex, Rw, Ask, Lock, Read, Write, Poll, Drop, Try}
+use Rattle.band_script.specs.declared.call.Call.TheVariants.{TryLock, TryRead, TryWrite, Release, Reduce, Drain, Forget, Split, Merge, Downgrade, Status}
 use Rattle.band_script.specs.Name.{is_name}
 use Rattle.band_script.specs.Number.{is_number}
 

@@ -4,7 +4,8 @@ use Rattle.std.specs.List.{slice_split, join_with_byte}
 use Rattle.std.specs.Str.{bytes_eq}
 use Rattle.std.specs.Str.Parse.{digits_value}
 use Rattle.band_script.specs.declared.call.Call.{Call}
-use Rattle.band_script.specs.declared.call.Call.TheVariants.{Sem, Mutex, Rw, Ask, Lock, Read, Write, Poll, Drop, Try, TryLock, TryRead, TryWrite, Release, Reduce, Drain, Forget, Split, Merge, Downgrade, Status}
+use Rattle.band_script.specs.declared.call.Call.TheVariants.{Sem, Mutex, Rw, Ask, Lock, Read, Write, Poll, Drop, Try}
+use Rattle.band_script.specs.declared.call.Call.TheVariants.{TryLock, TryRead, TryWrite, Release, Reduce, Drain, Forget, Split, Merge, Downgrade, Status}
 use Rattle.band_script.specs.Call.{spelling, is_call, IsCall}
 
 -- the words of a line: what stands between its spaces
@@ -36,6 +37,6 @@ readings (form ∷ a ∷ b ∷ c ∷ []) =
 readings (form ∷ a ∷ b ∷ c ∷ d ∷ []) = Ask a b (digits_value 10 c) (digits_value 10 d) ∷ []
 readings words = []
 
--- the call that a line stands for, if it stands for one: that of the readings of its words which has this line
+-- the call that a line stands for, if it stands for one: the reading of its words that has this line
 unfoldable pub call_of : List ℕ → Option Call
 call_of line = find (is_line line) (readings (words_of line))

@@ -32,7 +32,8 @@ pub fn parse_line(line: &[u8]) -> Option<Call>
     }
 }
 
-// Each of these is a function of its own when it runs, too: where they all stand in one, names are moved about piece by piece.
+// Each of these stays a function of its own when it runs: where they all stand in one, names are moved about piece by
+// piece.
 
 #[inline(never)]
 fn read_one_name(form: OneName, rest: &[u8]) -> Option<Call>

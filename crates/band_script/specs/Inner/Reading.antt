@@ -1,5 +1,5 @@
 -- The reading of a line, step by step.
-use Rattle.std.specs.Prelude.{◌≡◌, ◌≢◌, ℕ, ◌≤◌, ◌^◌, drop, List, [], ◌∷◌, ◌++◌, map, Option, Some, None, IsTrue}
+use Rattle.std.specs.Prelude.{◌≡◌, ◌≢◌, ℕ, ◌≤◌, ◌^◌, drop, List, [], ◌∷◌, ◌++◌, Option, Some, None, IsTrue}
 use Rattle.std.specs.Borrow.{Bor}
 use Rattle.std.specs.Fmt.{decimal}
 use Rattle.std.specs.Char.{is_ascii_digit}
@@ -10,8 +10,8 @@ use Rattle.band_script.specs.declared.call.Call.{Call}
 use Rattle.band_script.specs.declared.words.Words.{Words}
 use Rattle.band_script.specs.Call.{are_operands, operands}
 use Rattle.band_script.specs.Grammar.{IsLine, words_of}
-use Rattle.band_script.specs.Name.{IsName, is_name}
-use Rattle.band_script.specs.Number.{IsNumber, is_number}
+use Rattle.band_script.specs.Name.{IsName}
+use Rattle.band_script.specs.Number.{IsNumber}
 
 -- what may follow a word: nothing, or a space and more
 abbrev pub Ends : List ℕ → Type 0
