@@ -40,6 +40,7 @@ fn keeps_a_call(rt: HostRuntime) -> Result<(), Fail> {
     let name = Name::from_word(b"o").ok_or("no name")?;
     let call = Call::Status { name };
     assert_eq!(rt; call.clone()?, call);
+    assert_eq!(rt; call.copy(), call);
     Ok(())
 }
 
