@@ -1,7 +1,7 @@
 //! What is written for replies and wakers.
 
-use crate::print::{push_reply, push_wake};
 use crate::Reply;
+use crate::print::{push_reply, push_wake};
 use band_base::Waker;
 use band_sem::Refusal;
 use std::test::Fail;
