@@ -8,3 +8,4 @@ pub mod places;
 pub mod refusals;
 pub mod scripts;
 pub mod semaphores;
+pub mod wakers;
