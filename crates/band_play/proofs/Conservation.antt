@@ -9,8 +9,8 @@ use Rattle.band_balance.specs.Object.{Object, Turn, Kind, Mode, Permit, Lock, Re
 use Rattle.band_balance.specs.Object as object
 use Rattle.band_sem.specs.declared.refusal.Refusal.{Refusal}
 use Rattle.band_sem.specs.declared.refusal.Refusal.TheVariants as refusals
-use Rattle.band_play.specs.declared.call.Call.{Call}
-use Rattle.band_play.specs.declared.call.Call.TheVariants as calls
+use Rattle.band_script.specs.declared.call.Call.{Call}
+use Rattle.band_script.specs.declared.call.Call.TheVariants as calls
 use Rattle.band_play.specs.declared.reply.Reply.{Reply}
 use Rattle.band_play.specs.declared.reply.Reply.TheVariants as replies
 use Rattle.band_play.specs.Player.{ForReaders}

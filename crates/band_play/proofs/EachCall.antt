@@ -7,8 +7,8 @@ use Rattle.band_balance.specs.Line.{requests}
 use Rattle.band_balance.specs.Object.{Object, Turn, Kind, Mode, Permit, Lock, Read, Write, size_of, new_semaphore, new_mutex, new_reader_writer, ask, poll, drop, try_for, release, reduce, drain, status, forget, split, merge, downgrade, would_overflow, would_owe_too_much}
 use Rattle.band_sem.specs.declared.refusal.Refusal.{Refusal}
 use Rattle.band_sem.specs.declared.refusal.Refusal.TheVariants as refusals
-use Rattle.band_play.specs.declared.call.Call.{Call}
-use Rattle.band_play.specs.declared.call.Call.TheVariants as calls
+use Rattle.band_script.specs.declared.call.Call.{Call}
+use Rattle.band_script.specs.declared.call.Call.TheVariants as calls
 use Rattle.band_play.specs.declared.reply.Reply.TheVariants as replies
 use Rattle.band_play.specs.State.{State, Named, Tag, tag, permit_tag, is_tag, stands_in, Standing, Absent, AnObject, ARequest, AHolding, standing, standing_from}
 use Rattle.band_play.specs.Step.{Outcome, refused, after_turn, turn_at, unless_taken, making, asking, polling, dropping, trying, releasing, reducing, draining, showing, on_held, forgetting, splitting, downgrading, merging_held, merging, most_readers, step}

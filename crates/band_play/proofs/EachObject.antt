@@ -2,7 +2,7 @@
 use Rattle.std.proofs.Common.{List, [], ◌∷◌}
 use Rattle.std.specs.List.{AllByRecursion}
 use Rattle.band_balance.specs.Object.{Object}
-use Rattle.band_play.specs.declared.call.Call.{Call}
+use Rattle.band_script.specs.declared.call.Call.{Call}
 use Rattle.band_play.specs.State.{State, Named, Tag}
 use Rattle.band_play.specs.Step.{step}
 use Rattle.band_play.specs.Script.{state_from, state_after}

@@ -7,7 +7,7 @@ use Rattle.band_balance.specs.Object.{Kind, Semaphore, Mutex, ReaderWriter, Writ
 use Rattle.band_balance.proofs.Rename.{all_of_first, all_of_both}
 use Rattle.band_balance.proofs.Settle.{total-append, total-cons}
 use Rattle.band_balance.proofs.Requests.{all-weaker}
-use Rattle.band_play.specs.declared.call.Call.{Call}
+use Rattle.band_script.specs.declared.call.Call.{Call}
 use Rattle.band_play.specs.Script.{state_after}
 use Rattle.band_play.specs.Exclusion.{ExclusiveAs, IsExclusive}
 use Rattle.band_play.specs.Player.{ForReaders}

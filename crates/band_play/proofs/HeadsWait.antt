@@ -7,7 +7,7 @@ use Rattle.band_balance.specs.Line.{Entry, is_served, drained, entry_named}
 use Rattle.band_balance.specs.Object.{Object, Turn, Kind, Semaphore, Mutex, ReaderWriter, ask, try_for, poll_of, drop_of, split_of, merge_of, downgrade_of}
 use Rattle.band_balance.specs.Settled.{HeadWaits}
 use Rattle.band_balance.proofs.Settle.{HeadWaits-give_back, HeadWaits-cancel, HeadWaits-take_permits, HeadWaits-poll_granted, HeadWaits-poll_waiting, HeadWaits-join}
-use Rattle.band_play.specs.declared.call.Call.{Call}
+use Rattle.band_script.specs.declared.call.Call.{Call}
 use Rattle.band_play.specs.Script.{state_after}
 use Rattle.band_play.specs.State.{Named, Tag, is_tag}
 use Rattle.band_play.proofs.EachCall.{OfNew, of_any_new}

@@ -3,9 +3,10 @@ use Rattle.std.proofs.Common.{◌≡◌, ℕ, ◌+◌, ◌-◌, ◌<◌, ◌≤�
 use Rattle.std.proofs.lemmas.Bool.{ltb-true, ltb-false}
 use Rattle.std.proofs.lemmas.List.{take_all, take-append-le}
 use Rattle.std.proofs.Math.Seq.{take-append-add}
-use Rattle.band_play.specs.declared.call.Call.{Call}
-use Rattle.band_play.specs.Grammar.{call_of}
-use Rattle.band_play.proofs.GrammarLemmas.{some_call, longest_call_line}
+use Rattle.band_script.specs.declared.call.Call.{Call}
+use Rattle.band_script.specs.Grammar.{call_of}
+use Rattle.band_script.proofs.Decoding.{call_of_line}
+use Rattle.band_script.proofs.Lengths.{line_length}
 
 -- what is within a limit begins with what of the front is
 pub take_through : (limit : ℕ) (bytes more : List ℕ) → take limit (bytes ++ more) ≡ take limit bytes ++ take (limit - length bytes) more
@@ -49,7 +50,7 @@ no_call_past line past = by_call (call_of line) refl
     by_call : (call : Option Call) → call ≡ call_of line → call_of line ≡ None
     by_call None e = sym e
     by_call (Some call) e =
-        let short = longest_call_line line call (some_call line (Some call) e) in
+        let short = line_length line call ((call_of_line line call).0 (sym e)) in
         absurd (omega (arith, short))
 
 -- what is past the longest line is not needed to tell that there is no call

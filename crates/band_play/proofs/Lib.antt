@@ -12,19 +12,14 @@ pub mod EachCall
 pub mod EachObject
 pub mod Excluding
 pub mod Follow
-pub mod GrammarLemmas
 pub mod Granting
 pub mod HeadsWait
 pub mod HeldLemmas
 pub mod LineCuts
-pub mod LineRows
 pub mod LineRuns
 pub mod Lists
-pub mod LongestLine
 pub mod Making
 pub mod Merging
-pub mod NameLemmas
-pub mod NumberLemmas
 pub mod Numbers
 pub mod ObjectNames
 pub mod ObjectPermits
@@ -52,4 +47,3 @@ pub mod Updates
 pub mod Wakers
 pub mod Waking
 pub mod Within
-pub mod WordLemmas

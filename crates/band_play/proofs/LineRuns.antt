@@ -1,8 +1,8 @@
 -- Lines that each stand for a call: their calls, text and outcome, and those of lines after them.
 use Rattle.std.proofs.Common.{◌≡◌, ℕ, ◌+◌, Bool, List, [], ◌∷◌, ◌++◌, length, Option, Some, None, IsSome, refl, sym, ap, ◌∙◌, append_assoc, append-nil, arith}
 use Rattle.std.specs.List.{AllByRecursion}
-use Rattle.band_play.specs.declared.call.Call.{Call}
-use Rattle.band_play.specs.Grammar.{call_of}
+use Rattle.band_script.specs.declared.call.Call.{Call}
+use Rattle.band_script.specs.Grammar.{call_of}
 use Rattle.band_play.specs.State.{State}
 use Rattle.band_play.specs.Step.{step}
 use Rattle.band_play.specs.Script.{Verdict, Malformed, verdict_from, verdict_after, verdict_at_end, lines_of, rest_of, calls_of, calls_from, transcript, transcript_from, state_from}

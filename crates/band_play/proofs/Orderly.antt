@@ -2,14 +2,14 @@
 use Rattle.std.proofs.Common.{◌≡◌, ℕ, ◌<◌, ◌==◌, Bool, true, false, cond, List, [], ◌∷◌, ◌++◌, Option, Some, None, refl, sym, ap, ◌∙◌, arith}
 use Rattle.std.specs.List.{AllByRecursion, slice_get}
 use Rattle.std.specs.Str.{bytes_eq}
-use Rattle.std.proofs.lemmas.Bool.{cond_both, true≢false}
+use Rattle.std.proofs.lemmas.Bool.{cond_both, ltb-true, true≢false}
 use Rattle.band_balance.specs.Line.{Entry, entry_named}
 use Rattle.std.specs.Prelude.{nat_le}
 use Rattle.band_balance.specs.Object.{Object, Turn, Kind, Mode, Permit, Lock, Read, Write, size_of, new_semaphore, new_mutex, new_reader_writer, ask, poll, drop, try_for, release, reduce, drain, status, forget, split, split_of, merge, merge_of, downgrade, would_overflow, would_owe_too_much}
 use Rattle.band_sem.specs.declared.refusal.Refusal.{Refusal}
 use Rattle.band_sem.specs.declared.refusal.Refusal.TheVariants as refusals
-use Rattle.band_play.specs.declared.call.Call.{Call}
-use Rattle.band_play.specs.declared.call.Call.TheVariants as calls
+use Rattle.band_script.specs.declared.call.Call.{Call}
+use Rattle.band_script.specs.declared.call.Call.TheVariants as calls
 use Rattle.band_play.specs.declared.reply.Reply.TheVariants as replies
 use Rattle.band_play.specs.Player.{ForReaders}
 use Rattle.band_play.specs.State.{State, Named, Tag, tag, permit_tag, is_tag, Standing, Absent, AnObject, ARequest, AHolding, standing}
@@ -47,7 +47,7 @@ own_size mode kind asked lock = refl
 
 many_readers : (n : Option ℕ) (made : List ℕ) → ForReaders (calls.Rw made n) → 0 < most_readers n
 many_readers None made some = omega arith
-many_readers (Some n) made some = some
+many_readers (Some n) made some = ltb-true 0 n some
 
 module _ (state : State) (all : AllInOrder state) where
   abbrev Keeps : Outcome → Type 0

@@ -5,12 +5,12 @@ use Rattle.std.proofs.KnownBytes.{Appends-trans}
 use Rattle.band_base.specs.Device.{AppendsPrefix, Rose}
 use Rattle.band_base.specs.declared.sink.SinkError.{SinkError}
 use Rattle.band_base.specs.declared.sink.SinkError.TheVariants as sinks
-use Rattle.band_play.specs.declared.call.Call.{Call}
+use Rattle.band_script.specs.declared.call.Call.{Call}
 use Rattle.band_play.specs.declared.fault.PlayFault.{PlayFault}
 use Rattle.band_play.specs.declared.fault.PlayFault.TheVariants as faults
 use Rattle.band_play.specs.declared.playing.Playing.{Playing}
 use Rattle.band_play.specs.Faults.{fault_of}
-use Rattle.band_play.specs.Grammar.{call_of}
+use Rattle.band_script.specs.Grammar.{call_of}
 use Rattle.band_play.specs.Player.{StandsFor}
 use Rattle.band_play.specs.Script.{Malformed, verdict_from, lines_of, rest_of, calls_of, transcript, state_from}
 use Rattle.band_play.specs.Lines.{HasNoNewline, Tells, text_after}

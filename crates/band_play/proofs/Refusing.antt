@@ -2,7 +2,7 @@
 use Rattle.std.proofs.Common.{◌≡◌, refl}
 use Rattle.band_balance.specs.Object.{Answer, Done, Ready, Pending, Nothing, Drained, Figures}
 use Rattle.band_sem.specs.declared.refusal.Refusal.{Refusal}
-use Rattle.band_play.specs.declared.call.Call.{Call}
+use Rattle.band_script.specs.declared.call.Call.{Call}
 use Rattle.band_play.specs.declared.reply.Reply.TheVariants as replies
 use Rattle.band_play.specs.State.{State}
 use Rattle.band_play.specs.Step.{reply_of, step}

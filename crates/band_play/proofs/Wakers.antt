@@ -8,7 +8,7 @@ use Rattle.band_balance.specs.Line.{Entry, Waiting, Line, requests, is_served, t
 use Rattle.band_balance.specs.Object.{Object, Turn, Answer, Done, Ready, Pending, Nothing, Drained, Kind, Semaphore, Mutex, ReaderWriter, turn, hold, ask, poll_of, try_for, drop_of, split_of, merge_of, downgrade_of}
 use Rattle.band_balance.proofs.Settle.{wakers}
 use Rattle.band_balance.proofs.Requests.{all-weaker, all-without, requests-join, requests-poll_waiting, requests-poll_granted, requests-give_back, requests-cancel}
-use Rattle.band_play.specs.declared.call.Call.{Call}
+use Rattle.band_script.specs.declared.call.Call.{Call}
 use Rattle.band_play.specs.Script.{state_from, state_after}
 use Rattle.band_play.specs.State.{State, Named, Tag, is_tag, stands_in}
 use Rattle.band_play.specs.Step.{Outcome, step}

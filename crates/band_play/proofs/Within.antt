@@ -1,20 +1,20 @@
 -- What is granted and held of an object stays within the largest count, also with what is free, and so does what is owed.
-use Rattle.std.proofs.Common.{◌≡◌, ℕ, ◌+◌, ◌≤◌, ◌==◌, ◌||◌, ◌&&◌, min, Bool, true, false, cond, List, [], ◌∷◌, ◌++◌, Option, Some, None, ℤ, pos, neg_ℤ, ◌+ℤ◌, ◌-ℤ◌, ◌≤ℤ◌, ◌⊎◌, inl, inr, int_le, int_lt, refl, sym, ap, ◌∙◌, subst, arith}
+use Rattle.std.proofs.Common.{◌≡◌, ℕ, ◌+◌, ◌^◌, ◌≤◌, ◌==◌, ◌||◌, ◌&&◌, min, Bool, true, false, cond, List, [], ◌∷◌, ◌++◌, Option, Some, None, ℤ, pos, neg_ℤ, ◌+ℤ◌, ◌-ℤ◌, ◌≤ℤ◌, ◌⊎◌, inl, inr, int_le, int_lt, refl, sym, ap, ◌∙◌, subst, arith}
 use Rattle.std.specs.List.{AllByRecursion}
 use Rattle.std.specs.Prelude.{nat_le, unsigned_abs}
 use Rattle.std.specs.Str.{bytes_eq}
 use Rattle.std.proofs.lemmas.Int.{ints}
-use Rattle.std.proofs.lemmas.Bool.{cond_both, eqb-true, and_parts}
+use Rattle.std.proofs.lemmas.Bool.{cond_both, eqb-true, ltb-true, and_parts}
 use Rattle.band_balance.specs.Line.{Entry, Waiting, Line, entry_of, total, u64_max, is_served, nobody_waits, settle_from, take_permits, give_back, drained, withdraw, settle, entry_named, without}
 use Rattle.band_balance.specs.Object.{Object, Turn, Kind, Semaphore, Mutex, ReaderWriter, hold, ask, try_for, poll_of, drop_of, release, reduce, drain, forget, split, split_of, merge, merge_of, downgrade_of, would_overflow, would_owe_too_much}
 use Rattle.band_balance.proofs.Settle.{total-append, total-cons, total-without}
 use Rattle.band_balance.proofs.Requests.{all-weaker}
-use Rattle.band_play.specs.declared.call.Call.{Call}
-use Rattle.band_play.specs.declared.call.Call.TheVariants as calls
+use Rattle.band_script.specs.declared.call.Call.{Call}
+use Rattle.band_script.specs.declared.call.Call.TheVariants as calls
 use Rattle.band_play.specs.Bounds.{HasNumbers, IsWithin}
 use Rattle.band_play.specs.Conservation.{size_of}
 use Rattle.band_play.specs.Script.{state_after}
-use Rattle.band_play.specs.Grammar.{IsNumber}
+use Rattle.band_script.specs.Number.{IsNumber}
 use Rattle.band_play.specs.Player.{ForReaders}
 use Rattle.band_play.specs.State.{Named, Tag, is_tag, permit_tag}
 use Rattle.band_play.proofs.EachCall.{OfNew}
@@ -282,11 +282,13 @@ fit_kept = record {
 }
 
 -- a new object fits
-new_semaphore_fits : (n : ℕ) → IsNumber n → Fits (pos n) 0
-new_semaphore_fits n small = record { in_hand = omega arith; in_all = omega (arith, ints); owed = omega (arith, ints) }
-
 number_fits : (n : ℕ) → IsNumber n → n ≤ u64_max
-number_fits n small = omega arith
+number_fits n small = omega (arith, ltb-true n (2 ^ 64) small)
+
+new_semaphore_fits : (n : ℕ) → IsNumber n → Fits (pos n) 0
+new_semaphore_fits n small =
+    let most = number_fits n small in
+    record { in_hand = omega arith; in_all = omega (arith, ints); owed = omega (arith, ints) }
 
 new_fits : (call : Call) → HasNumbers call → OfNew IsFit call
 new_fits (calls.Sem made n) small = new_semaphore_fits n small

@@ -2,9 +2,9 @@
 use Rattle.std.specs.Prelude.{◌+◌, ◌≤◌, Some, pos, neg_ℤ, ◌+ℤ◌, ◌≤ℤ◌}
 use Rattle.band_balance.specs.Line.{total, u64_max}
 use Rattle.band_balance.specs.Object.{Object}
-use Rattle.band_play.specs.declared.call.Call.{Call}
-use Rattle.band_play.specs.declared.call.Call.TheVariants as calls
-use Rattle.band_play.specs.Grammar.{IsNumber}
+use Rattle.band_script.specs.declared.call.Call.{Call}
+use Rattle.band_script.specs.declared.call.Call.TheVariants as calls
+use Rattle.band_script.specs.Number.{IsNumber}
 use Rattle.band_play.specs.State.{Tag}
 
 -- how many permits a call names is below 2 to the 64th

@@ -4,15 +4,11 @@ pub mod Bounds
 pub mod Conservation
 pub mod Exclusion
 pub mod Faults
-pub mod Grammar
 pub mod Kept
 pub mod Lawful
-pub mod Left
 pub mod Lines
 pub mod Moves
-pub mod Name
 pub mod Names
-pub mod Number
 pub mod Objects
 pub mod Play
 pub mod Player
@@ -26,6 +22,9 @@ pub mod Thing
 pub mod Token
 pub mod Tokens
 pub mod Woken
-pub mod Words
 pub use Rattle.band_balance.specs.Line
 pub use Rattle.band_balance.specs.Object
+pub use Rattle.band_script.specs.Call
+pub use Rattle.band_script.specs.Grammar
+pub use Rattle.band_script.specs.Name
+pub use Rattle.band_script.specs.Number

@@ -1,7 +1,7 @@
 -- How the lines of a script are told.
 use Rattle.std.specs.Prelude.{◌≡◌, ℕ, false, List, ◌++◌}
 use Rattle.std.specs.List.{All}
-use Rattle.band_play.specs.declared.call.Call.{Call}
+use Rattle.band_script.specs.declared.call.Call.{Call}
 use Rattle.band_play.specs.declared.player.Player.{Player}
 use Rattle.band_play.specs.State.{State}
 use Rattle.band_play.specs.Step.{step}

@@ -1,13 +1,14 @@
 -- What contracts say of a player.
 use Rattle.std.specs.Prelude.{ℕ, ◌<◌, List, Some}
-use Rattle.band_play.specs.declared.call.Call.{Call}
-use Rattle.band_play.specs.declared.call.Call.TheVariants.{Sem, Mutex, Rw, Ask, Lock, Read, Write, Poll, Drop, Try, TryLock, TryRead, TryWrite, Release, Reduce, Drain, Forget, Split, Merge, Downgrade, Status}
+use Rattle.band_script.specs.declared.call.Call.{Call}
+use Rattle.band_script.specs.declared.call.Call.TheVariants.{Sem, Mutex, Rw, Ask, Lock, Read, Write, Poll, Drop, Try, TryLock, TryRead, TryWrite, Release, Reduce, Drain, Forget, Split, Merge, Downgrade, Status}
 use Rattle.band_play.specs.declared.player.Player.{Player}
 use Rattle.band_play.specs.declared.reply.Reply.{Reply}
 use Rattle.band_play.specs.Lawful.{EachLawful}
 use Rattle.band_play.specs.State.{State}
 use Rattle.band_play.specs.Step.{Outcome}
 use Rattle.band_play.specs.Kept as kept
+pub use Rattle.band_script.specs.Call.{ForReaders}
 
 -- the player has come to a state
 abbrev pub StandsFor : Player → State → Type 0
@@ -56,8 +57,3 @@ TakesNoMemory (Split name made n) = ⊥
 TakesNoMemory (Merge kept spent) = Unit {0}
 TakesNoMemory (Downgrade name) = Unit {0}
 TakesNoMemory (Status name) = Unit {0}
-
--- a lock is made for one reader at least
-abbrev pub ForReaders : Call → Type 0
-ForReaders (Rw made (Some n)) = 0 < n
-ForReaders call = Unit {0}

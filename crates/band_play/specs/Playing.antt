@@ -6,7 +6,7 @@ use Rattle.band_base.specs.Device.{AppendsPrefix, Rose}
 use Rattle.band_play.specs.declared.fault.PlayFault.{PlayFault}
 use Rattle.band_play.specs.declared.fault.PlayFault.TheVariants as faults
 use Rattle.band_play.specs.declared.playing.Playing.{Playing}
-use Rattle.band_play.specs.Grammar.{call_of}
+use Rattle.band_script.specs.Grammar.{call_of}
 use Rattle.band_play.specs.Player.{StandsFor}
 use Rattle.band_play.specs.Script.{Malformed, verdict_from, lines_of, rest_of, calls_of, transcript, state_from}
 

@@ -1,8 +1,8 @@
 -- A script: its lines, the calls that they stand for, its transcript, and the outcome of its bytes.
 use Rattle.std.specs.Prelude.{ℕ, ◌+◌, Bool, true, false, ◌==◌, nat_lt, List, [], ◌∷◌, ◌++◌, length, take, Option, Some, None}
 use Rattle.std.specs.List.{slice_split}
-use Rattle.band_play.specs.declared.call.Call.{Call}
-use Rattle.band_play.specs.Grammar.{call_of}
+use Rattle.band_script.specs.declared.call.Call.{Call}
+use Rattle.band_script.specs.Grammar.{call_of}
 use Rattle.band_play.specs.State.{State}
 use Rattle.band_play.specs.Step.{step}
 use Rattle.band_play.specs.Text.{text_of}

@@ -6,8 +6,8 @@ use Rattle.band_sem.specs.declared.refusal.Refusal.TheVariants.{Unknown, Kind, S
 use Rattle.band_balance.specs.Line.{Entry, entry_named}
 use Rattle.band_balance.specs.Object.{Object, Mode, Permit, Lock, Read, Write, Turn, Answer, Semaphore, Mutex, ReaderWriter, size_of, new_semaphore, new_mutex, new_reader_writer, ask, poll, drop, try_for, release, reduce, drain, status, forget, split, merge, downgrade, would_overflow, would_owe_too_much}
 use Rattle.band_balance.specs.Object as object
-use Rattle.band_play.specs.declared.call.Call.{Call}
-use Rattle.band_play.specs.declared.call.Call.TheVariants as calls
+use Rattle.band_script.specs.declared.call.Call.{Call}
+use Rattle.band_script.specs.declared.call.Call.TheVariants as calls
 use Rattle.band_play.specs.declared.reply.Reply.{Reply}
 use Rattle.band_play.specs.declared.reply.Reply.TheVariants as replies
 use Rattle.band_play.specs.State.{State, Named, Tag, Standing, Absent, AnObject, ARequest, AHolding, standing, is_tag, tag, permit_tag}

@@ -2,7 +2,7 @@
 ghost use Rattle.std.specs.List.{AllByRecursion};
 ghost use Rattle.std.specs.Prelude.{◌≡◌, List, [], ℕ, true, false, pos, ◌+ℤ◌};
 ghost use Rattle.band_balance.specs.Settled.{HeadWaits};
-ghost use Rattle.band_play.specs.declared.call.Call.{Call as TheCall};
+ghost use Rattle.band_script.specs.declared.call.Call.{Call as TheCall};
 ghost use Rattle.band_play.specs.Player.{ForReaders};
 ghost use Rattle.band_play.specs.Script.{calls_of, state_after};
 ghost use Rattle.band_play.specs.State.{Named};

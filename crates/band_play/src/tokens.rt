@@ -37,7 +37,7 @@ impl Model for Tokens {
     ghost use Rattle.std.specs.contracts.alloc.Global as heap;
     ghost use Rattle.band_play.specs.Token.{TokenState};
     ghost use Rattle.band_play.specs.contracts.boxed_token.BoxedToken as boxed;
-    ghost use Rattle.band_play.specs.contracts.name.Name as name;
+    ghost use Rattle.band_script.specs.contracts.name.Name as name;
 
     ghost Value = { BTreeMap (List ℕ) TokenState };
 

@@ -3,6 +3,7 @@
 
 pub mod counter;
 pub mod devices;
+pub mod lines;
 pub mod locks;
 pub mod places;
 pub mod refusals;

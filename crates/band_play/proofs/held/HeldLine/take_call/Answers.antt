@@ -1,5 +1,5 @@
 use Rattle.std.proofs.Common.{◌∙◌, ap}
-use Rattle.band_play.specs.Grammar.{call_of}
+use Rattle.band_script.specs.Grammar.{call_of}
 use Rattle.band_play.proofs.HeldLemmas.{call_of_empty, call_of_held}
 use Rattle.band_play.proofs.held.HeldLine.take_call.Goals as goal
 

@@ -1,5 +1,5 @@
 use Rattle.std.proofs.Common.{IfOk, OnErr, subst}
-use Rattle.band_play.specs.declared.call.Call.{Call as TheCall}
+use Rattle.band_script.specs.declared.call.Call.{Call as TheCall}
 use Rattle.band_play.specs.Step.{step}
 use Rattle.band_play.specs.Kept.{Follows, Works}
 use Rattle.band_play.proofs.player.Player.step.Goals as goal

@@ -1,0 +1,7 @@
+pub mod Decoding
+pub mod Fronts
+pub mod GrammarLemmas
+pub mod Lengths
+pub mod NameLemmas
+pub mod NumberLemmas
+pub mod WordLemmas
