@@ -1,7 +1,7 @@
 //! The counter of visits.
 ghost use Rattle.std.specs.Prelude.{◌≡◌, ◌+◌, ◌<◌};
 
-use std::marker::Model;
+use std::marker::{Brand, Model};
 use std::sync::ledger::{Blank, Book, Ledger, Share};
 
 /// How often a slot of an arena was visited. It takes no bytes when it runs, and only `tick` changes it.
@@ -10,6 +10,8 @@ pub struct Steps<L: Ledger> {
     book: Book<L>,
     share: Share<L>,
 }
+
+const _: () = prove!(size_of::<Steps<Brand>>() == 0);
 
 impl<L: Ledger> Model for Steps<L> {
     ghost use Rattle.std.specs.Prelude.{ℕ, ◌<◌};

@@ -6,6 +6,7 @@ use Rattle.band_balance.specs.Object.{Object, Kind, Semaphore, Mutex, ReaderWrit
 use Rattle.band_balance.specs.Settled.{HeadWaits}
 use Rattle.band_balance.proofs.Rename.{requests-rename, total-renamed}
 use Rattle.band_sem.specs.Whole.{IsWhole}
+use Rattle.band_lock.specs.ReaderWriter.{IsWholeLock}
 use Rattle.band_play.specs.Bounds.{IsWithin}
 use Rattle.band_play.specs.Exclusion.{ExclusiveAs, in_hand}
 use Rattle.band_play.specs.Lawful.{IsLawful, EachLawful}
@@ -118,8 +119,8 @@ module _ (names : ℕ → ℕ → Tag) (table : List ℕ → Option Thing) (sems
     orderly Semaphore is = tt
     orderly Mutex is = shares Mutex is refl 1 (locked Mutex is) asks_mutex
     orderly (ReaderWriter max) is =
-        let is_lock : IsWhole max (shares_of sem) = locked (ReaderWriter max) is in
-        shares (ReaderWriter max) is refl max is_lock (asks_lock max is_lock.some)
+        let is_lock : IsWholeLock (record { max = max; shares = shares_of sem }) = locked (ReaderWriter max) is in
+        shares (ReaderWriter max) is refl max is_lock.shares (asks_lock max is_lock.some)
 
     lawful : IsLawful named.object
     lawful = record {

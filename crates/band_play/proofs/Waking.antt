@@ -6,7 +6,7 @@ use Rattle.std.proofs.lemmas.Bool.{false≢true, eqb-true}
 use Rattle.std.proofs.lemmas.Bool.Decides.{Decides-eqb}
 use Rattle.std.proofs.lemmas.List.{length-set}
 use Rattle.std.proofs.lemmas.Option.{same_Some}
-use Rattle.band_balance.specs.Line.{Line, requests, entry_named}
+use Rattle.band_balance.specs.Line.{requests, entry_named}
 use Rattle.band_base.specs.declared.waker.Waker.{Waker}
 use Rattle.band_balance.specs.Object.{Kind, Semaphore, Mutex, ReaderWriter}
 use Rattle.band_sem.specs.Semaphore.{IsLawful, SemaphoreState, is_slot}
@@ -40,7 +40,6 @@ same_line wakes sem lawful = record {
 
 same_lock : (max : ℕ) (wakes : List ℕ) (sem : ObjectState) → IsWhole max (shares_of (with_wakes wakes sem)) → IsWhole max (shares_of sem)
 same_lock max wakes sem is = record {
-  some = is.some;
   none_owed = is.none_owed;
   adds_up = is.adds_up;
   each_asks = is.each_asks;
@@ -52,7 +51,7 @@ same_lock max wakes sem is = record {
 same_lock_of : (kind : Kind) (wakes : List ℕ) (sem : ObjectState) → IsLockOf kind (shares_of (with_wakes wakes sem)) → IsLockOf kind (shares_of sem)
 same_lock_of Semaphore wakes sem is = tt
 same_lock_of Mutex wakes sem is = same_lock 1 wakes sem is
-same_lock_of (ReaderWriter max) wakes sem is = same_lock max wakes sem is
+same_lock_of (ReaderWriter max) wakes sem is = record { some = is.some; shares = same_lock max wakes sem is.shares }
 
 same_law : (wakes : List ℕ) (sem : ObjectState) → IsSteady (with_wakes wakes sem) → IsSteady sem
 same_law wakes sem steady = (same_line wakes sem steady.0, same_lock_of sem.kind wakes sem steady.1)

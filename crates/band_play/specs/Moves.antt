@@ -1,7 +1,7 @@
 -- What a poll and a drop of a thing make of the semaphores.
 use Rattle.std.specs.Prelude.{◌≡◌, ℕ, Bool, true, false, [], ◌+◌, ◌-◌, ◌<◌, ◌≤◌, ◌==◌, if◌then◌else◌, List, length, Option, Some, None, Result, Ok, Err, slice_get, slice_set}
 use Rattle.std.specs.Str.{bytes_eq}
-use Rattle.band_balance.specs.Line.{open_line, give_back, u64_max}
+use Rattle.band_balance.specs.Line.{open_line, u64_max}
 use Rattle.band_base.specs.declared.poll.Poll.{Poll}
 use Rattle.band_base.specs.declared.poll.Poll.TheVariants as polls
 use Rattle.band_base.specs.declared.poll.PollError.{PollError}
@@ -13,7 +13,7 @@ use Rattle.band_sem.specs.Semaphore.{IsOwn, Polls, given_back, cancelled}
 use Rattle.band_sem.specs.Permit.{Permit as Held}
 use Rattle.band_balance.specs.Object.{Mode, Permit, Lock, Read, Write, size_of}
 use Rattle.band_balance.specs.Object as object
-use Rattle.band_play.specs.Objects.{ObjectState, RequestState, HoldingState, of_kind, shares_of, on_semaphore, asked_of, permit_in, IsSteady, Fits}
+use Rattle.band_play.specs.Objects.{ObjectState, RequestState, HoldingState, shares_of, on_semaphore, asked_of, permit_in, IsSteady, Fits}
 use Rattle.band_play.specs.Step.{is_of, same_mode}
 use Rattle.band_play.specs.State.{Tag}
 use Rattle.band_play.specs.declared.object.New.{New}
@@ -260,7 +260,7 @@ IsForReaders (news.ReaderWriter max) = 0 < max
 
 -- all but one of so many go back
 abbrev pub downgraded : ℕ → ObjectState → ObjectState
-downgraded count sem = record sem { line = give_back (count - 1) sem.line; held = sem.held - (count - 1) }
+downgraded count sem = on_semaphore (given_back (count - 1)) sem
 
 -- what a name holds for writing it holds for reading from now on
 pub record Downgrades (name : List ℕ) (table table' : List ℕ → Option Thing) (old new : List ObjectState) (place : ℕ) : Type 0 where

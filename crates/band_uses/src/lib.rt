@@ -9,3 +9,4 @@ pub mod places;
 pub mod refusals;
 pub mod scripts;
 pub mod semaphores;
+pub mod wakers;

@@ -12,6 +12,7 @@ pub returns-clause-lawful : goal.returns-clause-lawful
 returns-clause-lawful g c = lawful_when_sound _ c.release.ensures.sound
 
 pub returns-clause-whole : goal.returns-clause-whole
-returns-clause-whole g c = elim c.if-release.branch
-  [ then-release w ↦ rw w.result-is (rw (← c.self.view_is) (whole-released _ _ c.args.n (rw w.if-release.true at c.release.ensures.yes)))
-  | else-release w ↦ rw w.result-is tt ]
+returns-clause-whole g c = elim c.if-release.branch [
+  | then-release w ↦ rw w.result-is (rw (← c.self.view_is) (whole-released _ _ c.args.n (rw w.if-release.true at c.release.ensures.yes)))
+  | else-release w ↦ rw w.result-is tt
+]
