@@ -1,10 +1,12 @@
 //! The program: its words, the standard streams and a counter, given to `run`.
 #![tactic(auto)]
 
-ghost use Rattle.std.specs.Prelude.{◌≡◌, ◌≢◌, ◌⊎◌, ◌<◌, [], ◌∷◌, codes, map, string_bytes};
+ghost use Rattle.std.specs.Prelude.{◌≡◌, ◌≢◌, ◌⊎◌, ◌<◌, [], ◌∷◌, Ok, codes, map, string_bytes};
+ghost use Rattle.std.specs.Result.{IfOk, IfErr};
 ghost use Rattle.band_play.specs.Play.{IsStatus};
 
 use band_base::{StdErr, StdIn, StdOut, Steps};
+use std::alloc::Global;
 use std::marker::Brand;
 use std::process::ExitCode;
 use std::sync::ledger::{Blank, Ledger};
@@ -21,12 +23,22 @@ fn main(rt: HostRuntime) -> ExitCode {
 fn status(rt: &HostRuntime) -> u8
     ensures { IsStatus result }
 {
-    let words = match read_words(rt) {
-        Ok(words) => words,
-        Err(error) if error.kind() == io::ErrorKind::OutOfMemory => return NO_MEMORY,
-        Err(_) => Vec::new(rt.alloc()),
-    };
-    run_counted::<Brand>(rt, &words, Blank::new(1))
+    match words_of(read_words(rt), rt.alloc()) {
+        Ok(words) => run_counted::<Brand>(rt, &words, Blank::new(1)),
+        Err(status) => status,
+    }
+}
+
+/// The words that were read, none where one is no text, and the status where there was no memory for them.
+fn words_of(read: io::Result<Vec<String>>, alloc: Global) -> Result<Vec<String>, u8>
+    ensures read { IfOk read (λ words. result ≡ Ok words) }
+    ensures status { IfErr result (λ status. status ≡ 7) }
+{
+    match read {
+        Err(error) if error.kind() == io::ErrorKind::OutOfMemory => Err(NO_MEMORY),
+        Err(_) => Ok(Vec::new(alloc)),
+        Ok(words) => Ok(words),
+    }
 }
 
 fn read_words(rt: &HostRuntime) -> io::Result<Vec<String>> {
@@ -48,3 +60,6 @@ fn run_counted<L: Ledger>(rt: &HostRuntime, words: &[String], blank: Blank) -> u
     let mut steps = Steps::<L>::new(blank);
     band_play::run(rt.alloc(), words, &mut src, &mut dst, &mut err, &mut steps)
 }
+
+#[cfg(test)]
+mod tests;

@@ -159,7 +159,6 @@ impl Sink for FailingOut<'_> {
         ensures err { OnErr result (self.new.written ≡ self.old.written) }
         ensures never_fall { self.old.calls.failed ≤ self.new.calls.failed }
         ensures failed { result ≡ Err SinkError.Failed → Rose self.old.calls.failed self.new.calls.failed }
-        ensures no_memory { result ≡ Err SinkError.NoMemory → IsTrue true }
     {
         if self.calls.next_fails() {
             return Err(SinkError::Failed);

@@ -67,6 +67,7 @@ impl Source for BytesIn<'_> {
         ensures count { IfOk result (λ n. n ≤ length buf.old) }
         ensures front { IfOk result (λ n. self.old ≡ take n buf.new ++ self.new) }
         ensures end { result ≡ Ok 0 → 0 < length buf.old → self.new ≡ [] }
+        // What the trait asks of errors and faults, of which there are none.
         ensures err { OnErr result (self.new ≡ self.old) }
         ensures never_fall { 0 ≤ 0 }
         ensures failed { OnErr result (Rose 0 0) }

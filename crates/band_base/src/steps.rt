@@ -1,15 +1,17 @@
 //! The counter of visits.
 ghost use Rattle.std.specs.Prelude.{◌≡◌, ◌+◌, ◌<◌};
 
-use std::marker::Model;
+use std::marker::{Brand, Model};
 use std::sync::ledger::{Blank, Book, Ledger, Share};
 
-/// How often a slot of an arena was visited. It takes no bytes, and only `tick` changes it.
+/// How often a slot of an arena was visited. It takes no bytes when it runs, and only `tick` changes it.
 #[derive(Drop)]
 pub struct Steps<L: Ledger> {
     book: Book<L>,
     share: Share<L>,
 }
+
+const _: () = prove!(size_of::<Steps<Brand>>() == 0);
 
 impl<L: Ledger> Model for Steps<L> {
     ghost use Rattle.std.specs.Prelude.{ℕ, ◌<◌};

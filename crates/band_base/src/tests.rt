@@ -103,31 +103,32 @@ fn a_sink_fails_at_its_calls(rt: HostRuntime) -> Result<(), Fail> {
     Ok(())
 }
 
-/// A reader or a writer whose first call is interrupted, and which from then on gives or takes a byte a call.
+/// A reader or a writer that fails at its first call and each second one after it, and else gives or takes a byte.
 #[derive(Drop)]
-struct InterruptedOnce {
+struct FailsByTurns {
     calls: u8,
 }
 
-impl InterruptedOnce {
+impl FailsByTurns {
     fn moves_one(&mut self, room: usize) -> io::Result<usize>
         ensures { IfOk result (λ n. n ≤ room) }
     {
         self.calls = self.calls.saturating_add(1);
-        if self.calls == 1 {
-            return Err(io::Error::from(io::ErrorKind::Interrupted));
+        match self.calls {
+            1 => Err(io::Error::from(io::ErrorKind::Interrupted)),
+            3 => Err(io::Error::from(io::ErrorKind::Other)),
+            _ => Ok(room.min(1)),
         }
-        Ok(room.min(1))
     }
 }
 
-impl Read for InterruptedOnce {
+impl Read for FailsByTurns {
     fn read(&mut self, buf: &mut [u8]) -> io::Result<usize> {
         self.moves_one(buf.len())
     }
 }
 
-impl Write for InterruptedOnce {
+impl Write for FailsByTurns {
     fn write(&mut self, buf: &[u8]) -> io::Result<usize> {
         self.moves_one(buf.len())
     }
@@ -138,30 +139,44 @@ impl Write for InterruptedOnce {
 }
 
 #[test]
-fn an_interrupted_read_is_a_fault_and_not_tried_again(rt: HostRuntime) -> Result<(), Fail> {
-    let mut source = ReaderSource::new(InterruptedOnce { calls: 0 });
-    assert!(rt; read_through(&mut source, &mut [0; 4]).is_err());
-    assert_eq!(rt; source.faults(), 1);
-    assert_eq!(rt; read_through(&mut source, &mut [0; 4])?, 1);
-    assert_eq!(rt; source.faults(), 1);
+fn a_read_that_failed_is_a_fault_and_not_tried_again(rt: HostRuntime) -> Result<(), Fail> {
+    let mut source = ReaderSource::new(FailsByTurns { calls: 0 });
+    for faults in 1..=2 {
+        assert!(rt; read_through(&mut source, &mut [0; 4]).is_err());
+        assert_eq!(rt; source.faults(), faults);
+        assert_eq!(rt; read_through(&mut source, &mut [0; 4])?, 1);
+        assert_eq!(rt; source.faults(), faults);
+    }
     Ok(())
 }
 
 #[test]
-fn an_interrupted_write_is_a_fault_and_not_tried_again(rt: HostRuntime) -> Result<(), Fail> {
-    let mut sink = WriterSink::new(InterruptedOnce { calls: 0 });
-    assert!(rt; matches!(write_through(&mut sink, b"ab"), Err(SinkError::Failed)));
-    assert_eq!(rt; sink.faults(), 1);
-    assert_eq!(rt; write_through(&mut sink, b"ab")?, 1);
-    assert_eq!(rt; sink.faults(), 1);
+fn a_write_that_failed_is_a_fault_and_not_tried_again(rt: HostRuntime) -> Result<(), Fail> {
+    let mut sink = WriterSink::new(FailsByTurns { calls: 0 });
+    for faults in 1..=2 {
+        assert!(rt; matches!(write_through(&mut sink, b"ab"), Err(SinkError::Failed)));
+        assert_eq!(rt; sink.faults(), faults);
+        assert_eq!(rt; write_through(&mut sink, b"ab")?, 1);
+        assert_eq!(rt; sink.faults(), faults);
+    }
     Ok(())
 }
 
 #[test]
-fn a_writer_that_takes_nothing_is_at_fault(rt: HostRuntime) -> Result<(), Fail> {
+fn a_reader_gives_as_much_as_it_has(rt: HostRuntime) -> Result<(), Fail> {
+    let mut source = ReaderSource::new([1u8, 2, 3].as_slice());
+    let mut buf = [0; 4];
+    assert_eq!(rt; read_through(&mut source, &mut buf)?, 3);
+    assert_eq!(rt; buf, [1, 2, 3, 0]);
+    assert_eq!(rt; read_through(&mut source, &mut buf)?, 0);
+    Ok(())
+}
+
+#[test]
+fn a_writer_takes_as_much_as_it_can_and_then_is_at_fault(rt: HostRuntime) -> Result<(), Fail> {
     let mut room = [0u8; 3];
     let mut sink = WriterSink::new(room.as_mut_slice());
-    write_all(&mut sink, b"abc")?;
+    assert_eq!(rt; write_through(&mut sink, b"abcd")?, 3);
     assert!(rt; matches!(write_through(&mut sink, b"d"), Err(SinkError::Failed)));
     assert_eq!(rt; sink.faults(), 1);
     Ok(())

@@ -1,5 +1,6 @@
-use Rattle.std.specs.Prelude.{ℕ}
+use Rattle.std.specs.Prelude.{ℕ, ◌<◌}
 use Rattle.band_sem.specs.Semaphore.{SemaphoreState, new_state}
+use Rattle.band_sem.specs.Whole.{IsWhole}
 
 -- what a contract sees of a reader-writer lock: the most readers at a time, and its shares, of which a reader has one and a
 -- writer has all
@@ -14,3 +15,8 @@ on_shares change lock = record lock { shares = change lock.shares }
 -- one for so many readers at a time, which nobody has
 abbrev pub new_lock : ℕ → ℕ → ReaderWriter
 new_lock number max = record { max = max; shares = new_state number max }
+
+-- all its shares are there, of which there is one at least
+pub record IsWholeLock (lock : ReaderWriter) : Type 0 where
+  pub some : 0 < lock.max
+  pub shares : IsWhole lock.max lock.shares

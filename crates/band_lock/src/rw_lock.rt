@@ -5,8 +5,7 @@ ghost use Rattle.band_sem.specs.Laws.{KeepsOrder, Leaves};
 ghost use Rattle.band_sem.specs.Permit.{new_permit};
 ghost use Rattle.band_sem.specs.Request.{new_request};
 ghost use Rattle.band_sem.specs.Semaphore.{IsLawful, IsOwn, Polls, taken, given_back, cancelled, TakesWake};
-ghost use Rattle.band_sem.specs.Whole.{IsWhole};
-ghost use Rattle.band_lock.specs.ReaderWriter.{new_lock, on_shares};
+ghost use Rattle.band_lock.specs.ReaderWriter.{new_lock, on_shares, IsWholeLock};
 
 use band_base::{Poll, PollError, Steps, Waker};
 use band_sem::{Acquire, Semaphore, SemaphorePermit};
@@ -22,14 +21,13 @@ pub struct RwLockState {
 }
 
 impl Model for RwLockState {
-    ghost use Rattle.band_sem.specs.Whole.{IsWhole};
-    ghost use Rattle.band_lock.specs.ReaderWriter.{ReaderWriter};
+    ghost use Rattle.band_lock.specs.ReaderWriter.{ReaderWriter, IsWholeLock};
 
     ghost Value = { ReaderWriter };
 
     ghost view = { λ l. record { max = l.max_readers; shares = l.semaphore } };
 
-    ghost invariant = { λ l. IsWhole l.max_readers l.semaphore };
+    ghost invariant = { λ l. IsWholeLock (record { max = l.max_readers; shares = l.semaphore }) };
 }
 
 /// A request to read. It must be ended by `cancel` or `lose`. Ports the future of `read`.
@@ -104,7 +102,7 @@ impl RwLockState {
     pub fn new(alloc: Global, number: u64) -> RwLockState
         ensures start { result ≡ new_lock number (2 ^ 63 - 1) }
         ensures lawful { IsLawful result.shares }
-        ensures whole { IsWhole result.max result.shares }
+        ensures whole { IsWholeLock result }
     {
         RwLockState::with_max_readers(alloc, number, MAX_READERS)
     }
@@ -114,7 +112,7 @@ impl RwLockState {
         requires { 0 < max_readers }
         ensures start { result ≡ new_lock number max_readers }
         ensures lawful { IsLawful result.shares }
-        ensures whole { IsWhole result.max result.shares }
+        ensures whole { IsWholeLock result }
     {
         RwLockState {
             max_readers,
@@ -133,7 +131,7 @@ impl RwLockState {
     /// Its shares as a semaphore, for its figures.
     pub fn semaphore(&self) -> &Semaphore
         ensures shares { result.now ≡ self.now.shares }
-        ensures whole { IsWhole self.now.max self.now.shares }
+        ensures whole { IsWholeLock self.now }
     {
         &self.semaphore
     }
@@ -163,7 +161,7 @@ impl RwLockState {
         ensures some { OnSome result (self.new ≡ on_shares (taken 1) self.old) }
         ensures none { IfNone result (self.new ≡ self.old) }
         ensures lawful { IsLawful self.new.shares }
-        ensures whole { IsWhole self.new.max self.new.shares }
+        ensures whole { IsWholeLock self.new }
     {
         let permit = self.semaphore.try_acquire(1)?;
         Some(ReadAccess { permit })
@@ -176,7 +174,7 @@ impl RwLockState {
         ensures some { OnSome result (self.new ≡ on_shares (taken self.old.max) self.old) }
         ensures none { IfNone result (self.new ≡ self.old) }
         ensures lawful { IsLawful self.new.shares }
-        ensures whole { IsWhole self.new.max self.new.shares }
+        ensures whole { IsWholeLock self.new }
     {
         let permit = self.semaphore.try_acquire(self.max_readers)?;
         Some(WriteAccess { permit })
@@ -190,7 +188,7 @@ impl RwLockState {
         ensures state { self.new ≡ on_shares (given_back 1) self.old }
         ensures order { KeepsOrder self.old.shares.line self.new.shares.line }
         ensures lawful { IsLawful self.new.shares }
-        ensures whole { IsWhole self.new.max self.new.shares }
+        ensures whole { IsWholeLock self.new }
     {
         self.semaphore.drop_permit(a.into_permit(), steps);
     }
@@ -203,7 +201,7 @@ impl RwLockState {
         ensures state { self.new ≡ on_shares (given_back self.old.max) self.old }
         ensures order { KeepsOrder self.old.shares.line self.new.shares.line }
         ensures lawful { IsLawful self.new.shares }
-        ensures whole { IsWhole self.new.max self.new.shares }
+        ensures whole { IsWholeLock self.new }
     {
         self.semaphore.drop_permit(a.into_permit(), steps);
     }
@@ -217,7 +215,7 @@ impl RwLockState {
         ensures state { self.new ≡ on_shares (given_back (self.old.max - 1)) self.old }
         ensures order { KeepsOrder self.old.shares.line self.new.shares.line }
         ensures lawful { IsLawful self.new.shares }
-        ensures whole { IsWhole self.new.max self.new.shares }
+        ensures whole { IsWholeLock self.new }
     {
         let permit = self.semaphore.shrink(a.into_permit(), 1, steps);
         ReadAccess { permit }
@@ -228,7 +226,7 @@ impl RwLockState {
         ensures woken { TakesWake self.old.shares result self.new.shares }
         ensures max { self.new.max ≡ self.old.max }
         ensures lawful { IsLawful self.new.shares }
-        ensures whole { IsWhole self.new.max self.new.shares }
+        ensures whole { IsWholeLock self.new }
     {
         self.semaphore.take_wake()
     }
@@ -256,7 +254,7 @@ impl ReadRequest {
         ensures max { l.new.max ≡ l.old.max }
         ensures order { KeepsOrder l.old.shares.line l.new.shares.line }
         ensures lawful { IsLawful l.new.shares }
-        ensures whole { IsWhole l.new.max l.new.shares }
+        ensures whole { IsWholeLock l.new }
     {
         match self.request.poll_once(&mut l.semaphore, waker, steps)? {
             Poll::Ready(permit) => Ok(Poll::Ready(ReadAccess { permit })),
@@ -272,7 +270,7 @@ impl ReadRequest {
         ensures others { Leaves self.stage l.old.shares l.new.shares }
         ensures order { KeepsOrder l.old.shares.line l.new.shares.line }
         ensures lawful { IsLawful l.new.shares }
-        ensures whole { IsWhole l.new.max l.new.shares }
+        ensures whole { IsWholeLock l.new }
     {
         let ReadRequest { request } = self;
         request.cancel(&mut l.semaphore, steps);
@@ -302,12 +300,12 @@ impl WriteRequest {
     ) -> Result<Poll<WriteAccess>, PollError>
         requires number { self.old.of ≡ l.old.shares.number }
         requires own { IsOwn self.old.stage self.old.size l.old.shares.line }
-        ensures some { 0 < self.old.size }
+        requires all { self.old.size ≡ l.old.max }
         ensures polls { Polls self.old waker.0 l.old.shares result self.new l.new.shares }
         ensures max { l.new.max ≡ l.old.max }
         ensures order { KeepsOrder l.old.shares.line l.new.shares.line }
         ensures lawful { IsLawful l.new.shares }
-        ensures whole { IsWhole l.new.max l.new.shares }
+        ensures whole { IsWholeLock l.new }
     {
         match self.request.poll_once(&mut l.semaphore, waker, steps)? {
             Poll::Ready(permit) => Ok(Poll::Ready(WriteAccess { permit })),
@@ -323,7 +321,7 @@ impl WriteRequest {
         ensures others { Leaves self.stage l.old.shares l.new.shares }
         ensures order { KeepsOrder l.old.shares.line l.new.shares.line }
         ensures lawful { IsLawful l.new.shares }
-        ensures whole { IsWhole l.new.max l.new.shares }
+        ensures whole { IsWholeLock l.new }
     {
         let WriteRequest { request } = self;
         request.cancel(&mut l.semaphore, steps);

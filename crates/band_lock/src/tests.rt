@@ -1,7 +1,7 @@
 //! What no clause says: that calls succeed, in small lives of a mutex and of a reader-writer lock.
 ghost use Rattle.std.specs.Prelude.{◌≡◌, ◌<◌, [], OnSome};
 ghost use Rattle.band_base.specs.declared.poll.Poll.TheVariants as poll;
-ghost use Rattle.band_sem.specs.Whole.{IsWhole};
+ghost use Rattle.band_lock.specs.ReaderWriter.{IsWholeLock};
 
 use crate::{MutexState, RwLockState, WriteAccess};
 use band_base::{Poll, PollError, Steps, Waker};
@@ -219,7 +219,7 @@ fn writes<L: Ledger>(
 ) -> Option<WriteAccess>
     ensures held { OnSome result (lock.new.shares.held ≡ lock.new.max) }
     ensures alone { OnSome result (lock.new.shares.line.granted ≡ []) }
-    ensures whole { IsWhole lock.new.max lock.new.shares }
+    ensures whole { IsWholeLock lock.new }
 {
     let mut request = lock.write();
     match request.poll_once(lock, waker, steps) {

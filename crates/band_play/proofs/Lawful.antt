@@ -60,7 +60,7 @@ module _ (tags : ℕ → Tag) (table : List ℕ → _) (place : ℕ) (object : O
       go : (kind : Kind) → named.object.kind ≡ kind → IfSome (shares_of kind) (HasShares named.object)
       go Semaphore is = tt
       go Mutex is = shares 1 (locked Mutex is)
-      go (ReaderWriter max) is = shares max (locked (ReaderWriter max) is)
+      go (ReaderWriter max) is = shares max (locked (ReaderWriter max) is).shares
 
   has_laws : HasLaws named.object
   has_laws = record { exclusive = exclusive bytes_eq named.object lets_in keeps_shares sound; head_waits = sound.head_waits; within = within }

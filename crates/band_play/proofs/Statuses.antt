@@ -13,7 +13,7 @@ pub front_of_none : (limit : ℕ) (left written : Option (List ℕ)) → WritesF
 front_of_none limit None written = tt
 front_of_none limit (Some bytes) written = ([], refl, record { prefix = []; rest = transcript (calls_within limit []); whole = refl; appended = Appends-nil written })
 
--- how the program is used, told with status 2, or a front of it where there was no memory
+-- how the program is used, told with status 2, or a prefix of it where it is out of memory
 pub told_usage : (status : ℕ) (text : List ℕ) (before after : Option (List ℕ)) (count count_now : ℕ) → text ≡ usage_text ++ 10 ∷ [] → (status ≡ 2) ⊎ (status ≡ 7)
     → (status ≡ 2 → status ≢ 7 → ToldText text before after count count_now) → AppendsPrefix text before after → ToldWith status before after count count_now
 told_usage status text before after count count_now is which told front = record {

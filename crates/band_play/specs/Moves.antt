@@ -1,7 +1,7 @@
 -- What a poll and a drop of a thing make of the semaphores.
 use Rattle.std.specs.Prelude.{◌≡◌, ℕ, Bool, true, false, ◌+◌, ◌-◌, ◌<◌, ◌≤◌, ◌==◌, if◌then◌else◌, List, length, Option, Some, None, Result, Ok, Err, slice_get, slice_set}
 use Rattle.std.specs.Str.{bytes_eq}
-use Rattle.band_balance.specs.Line.{give_back, u64_max}
+use Rattle.band_balance.specs.Line.{u64_max}
 use Rattle.band_base.specs.declared.poll.Poll.{Poll}
 use Rattle.band_base.specs.declared.poll.Poll.TheVariants as polls
 use Rattle.band_base.specs.declared.poll.PollError.{PollError}
@@ -266,7 +266,7 @@ make_call (news.ReaderWriter n) made = calls.Rw made n
 
 -- all but one of so many go back
 abbrev pub downgraded : ℕ → ObjectState → ObjectState
-downgraded count sem = record sem { line = give_back (count - 1) sem.line; held = sem.held - (count - 1) }
+downgraded count sem = on_semaphore (given_back (count - 1)) sem
 
 -- what a name holds for writing it holds for reading from now on
 pub record Downgrades (name : List ℕ) (table table' : List ℕ → Option Thing) (old new : List ObjectState) (place : ℕ) : Type 0 where

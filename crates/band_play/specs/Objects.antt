@@ -8,6 +8,7 @@ use Rattle.band_sem.specs.Permit.{Permit as Held}
 use Rattle.band_sem.specs.Request.{Request as Asked}
 use Rattle.band_sem.specs.Request.{Stage}
 use Rattle.band_sem.specs.Whole.{IsWhole}
+use Rattle.band_lock.specs.ReaderWriter.{IsWholeLock}
 use Rattle.band_play.specs.declared.object.Primitive.{Primitive}
 use Rattle.band_play.specs.declared.object.Primitive.TheVariants as objects
 use Rattle.band_play.specs.declared.request.AnyRequest.{AnyRequest}
@@ -85,7 +86,7 @@ permit_in holding = record { of = holding.of; count = holding.count }
 abbrev pub IsLockOf : Kind → SemaphoreState → Type 0
 IsLockOf Semaphore sem = Unit {0}
 IsLockOf Mutex sem = IsWhole 1 sem
-IsLockOf (ReaderWriter max) sem = IsWhole max sem
+IsLockOf (ReaderWriter max) sem = IsWholeLock (record { max = max; shares = sem })
 
 -- what holds of an object between any two calls
 abbrev pub IsSteady : ObjectState → Type 0

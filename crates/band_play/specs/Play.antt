@@ -45,7 +45,7 @@ StopsEarly limit (Some bytes) None before after = ⊥
 StopsEarly limit (Some bytes) (Some left) before after =
     (given : List ℕ) × (bytes ≡ given ++ left) × PlaysGiven limit given before after
 
--- where the source told its bytes: what was written is a front of the transcript of the lines that it gave
+-- where the source told its bytes: what was written is a prefix of the transcript of the lines that it gave
 abbrev pub WritesFront : ℕ → Option (List ℕ) → Option (List ℕ) → Option (List ℕ) → Option (List ℕ) → Type 0
 WritesFront limit None left before after = Unit {0}
 WritesFront limit (Some bytes) None before after = ⊥
@@ -106,7 +106,7 @@ abbrev pub CompletesAs : ℕ → Option (List ℕ) → ℕ → Type 0
 CompletesAs limit None status = Unit {0}
 CompletesAs limit (Some bytes) status = (status ≡ status_of (answer_of (verdict limit bytes))) ⊎ (status ≡ 7)
 
--- a text was told: all of it, or a front of it and the sink failed
+-- a text was told: all of it, or a prefix of it where the sink's count of faults rose or stands at its last number
 abbrev pub ToldText : List ℕ → Option (List ℕ) → Option (List ℕ) → ℕ → ℕ → Type 0
 ToldText text before after faults faults_now = Appends before after text ⊎ (AppendsPrefix text before after × Rose faults faults_now)
 
@@ -118,7 +118,7 @@ Told line before after faults faults_now = ToldText (line ++ 10 ∷ []) before a
 abbrev pub IsTold : List ℕ → Type 0
 IsTold line = (line ≡ usage_text) ⊎ ((fault : PlayFault) × (line ≡ fault_text fault))
 
--- where there was no memory: a front of one of them was told, if only an empty one
+-- out of memory: a prefix of one of them was told, if only an empty one
 abbrev pub ToldFront : Option (List ℕ) → Option (List ℕ) → Type 0
 ToldFront before after = (line : List ℕ) × IsTold line × AppendsPrefix (line ++ 10 ∷ []) before after
 

@@ -47,7 +47,7 @@ pub fn run<S: Source, D: Sink, E: Sink, L: Ledger>(
     ensures front { WritesFront program_limit (S.left src.old) (S.left src.new) (D.written dst.old) (D.written dst.new) }
     // What was given is answered, but for an end of it.
     ensures keeps_up { KeepsUp program_limit (S.left src.old) (S.left src.new) (D.written dst.old) (D.written dst.new) }
-    // Where neither end failed, the status tells the outcome, or there was no memory.
+    // Where neither count of faults rose or stands at its last number, the status tells the outcome, or that it is out of memory.
     ensures completes { map string_bytes words.now ≡ codes "play" ∷ [] → (Rose (S.faults src.old) (S.faults src.new) → ⊥) → (Rose (D.faults dst.old) (D.faults dst.new) → ⊥) → CompletesAs program_limit (S.left src.old) result }
     // What is told on `err`.
     ensures quiet { result ≡ 0 → err.new ≡ err.old }

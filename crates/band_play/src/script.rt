@@ -38,7 +38,7 @@ pub fn play<S: Source, D: Sink, L: Ledger>(
     ensures front { WritesFront limit (S.left src.old) (S.left src.new) (D.written dst.old) (D.written dst.new) }
     // What was given is answered, but for an end of it.
     ensures keeps_up { KeepsUp limit (S.left src.old) (S.left src.new) (D.written dst.old) (D.written dst.new) }
-    // Where neither end failed, the answer tells the outcome, or there was no memory.
+    // Where neither count of faults rose or stands at its last number, the answer tells the outcome, or that it is out of memory.
     ensures completes { (Rose (S.faults src.old) (S.faults src.new) → ⊥) → (Rose (D.faults dst.old) (D.faults dst.new) → ⊥) → Completes limit (S.left src.old) result }
     ensures reads_never_fall { S.faults src.old ≤ S.faults src.new }
     ensures writes_never_fall { D.faults dst.old ≤ D.faults dst.new }

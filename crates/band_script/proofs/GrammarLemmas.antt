@@ -1,9 +1,8 @@
 -- A line, the words of its call, and the form that its first word names.
-use Rattle.std.proofs.Common.{◌≡◌, ℕ, ◌+◌, ◌*◌, ◌^◌, ◌≤◌, Bool, true, false, cond, List, [], ◌∷◌, ◌++◌, length, map, Some, None, refl, sym, ap, ap₂, ◌∙◌, subst, length-append, lit≤, lit<, arith}
-use Rattle.std.specs.Prelude.{◌==◌, ◌≢◌, codes, not, IsTrue, nat_lt, Option, if◌then◌else◌}
+use Rattle.std.proofs.Common.{◌≡◌, ℕ, ◌^◌, Bool, true, false, List, [], ◌∷◌, ◌++◌, length, Some, None, refl, sym, ap, ◌∙◌, subst, lit<, arith}
+use Rattle.std.specs.Prelude.{◌==◌, ◌≢◌, codes, not, IsTrue, nat_lt, if◌then◌else◌}
 use Rattle.std.specs.Fmt.{decimal}
-use Rattle.std.specs.Option.{option_to_list}
-use Rattle.std.specs.List.{All, list_all, list_any, join_with_byte}
+use Rattle.std.specs.List.{list_all, list_any, join_with_byte}
 use Rattle.std.specs.Str.{bytes_eq}
 use Rattle.std.proofs.lemmas.Bool.{and_from, and_parts, false≢true, ltb-true}
 use Rattle.std.proofs.lemmas.Fmt.{decimal_injective}
@@ -20,18 +19,18 @@ use Rattle.band_script.specs.declared.form.TwoNames.{TwoNames}
 use Rattle.band_script.specs.declared.form.TwoNames.TheVariants as two_names
 use Rattle.band_script.specs.declared.form.TwoNamesNumber.{TwoNamesNumber}
 use Rattle.band_script.specs.declared.form.TwoNamesNumber.TheVariants as two_names_number
-use Rattle.band_script.specs.Call.{Parts, are_operands, operands, parts, spelling, written, IsCall, is_call, has_readers}
-use Rattle.band_script.specs.Grammar.{words_of, IsLine}
+use Rattle.band_script.specs.Call.{Parts, are_operands, operands, parts, spelling, written, IsCall}
+use Rattle.band_script.specs.Grammar.{words_of, line_of, IsLine}
 use Rattle.band_script.specs.Inner.Forms.{word_of, IsWritten}
 use Rattle.band_script.specs.Inner.Reading.{Decodes, ReadsNameNumber, ReadsNameOption, ReadsOneName, ReadsTwoNames, ReadsTwoNamesNumber, ReadsTwoNamesTwoNumbers}
 use Rattle.band_script.specs.Name.{is_name}
 use Rattle.band_script.specs.Number.{is_number}
 use Rattle.band_script.proofs.NameLemmas.{name_has_no_space}
 use Rattle.band_script.proofs.NumberLemmas.{number_has_no_space}
-use Rattle.band_script.proofs.WordLemmas.{no_space}
+use Rattle.band_script.proofs.WordLemmas.{HasNoSpace, no_space}
 
 -- words that are joined by spaces are cut there again
-cut_again : (word : List ℕ) (names : List (List ℕ)) (numbers : List ℕ) → All (λ byte. (byte == 32) ≡ false) word → list_all is_name names ≡ true → list_all is_number numbers ≡ true
+cut_again : (word : List ℕ) (names : List (List ℕ)) (numbers : List ℕ) → HasNoSpace word → list_all is_name names ≡ true → list_all is_number numbers ≡ true
     → words_of (join_with_byte 32 (word ∷ operands names numbers)) ≡ word ∷ operands names numbers
 cut_again word [] [] one names_are numbers_are = slice_split_none (λ byte. byte == 32) word one
 cut_again word [] (n ∷ numbers) one names_are numbers_are =
@@ -47,7 +46,7 @@ call_word (calls.Rw made (Some n)) = refl
 call_word call = refl
 
 -- a call begins with it and a space
-pub begins : (call : Call) → join_with_byte 32 (spelling call) ≡ (parts call).form ++ 32 ∷ join_with_byte 32 (operands (parts call).names (parts call).numbers)
+pub begins : (call : Call) → line_of call ≡ (parts call).form ++ 32 ∷ join_with_byte 32 (operands (parts call).names (parts call).numbers)
 begins (calls.Rw made (Some n)) = refl
 begins call = refl
 
@@ -67,9 +66,10 @@ pub written_line : (line : List ℕ) (form : Form) (rest : List ℕ) (names : Li
 written_line line form rest names numbers call begins is read =
     let word : parts call ≡ written (word_of form) names numbers = is.0 in
     let whole : IsTrue (are_operands (parts call).names (parts call).numbers) = rw word read.0 in
-    let one : All (λ byte. (byte == 32) ≡ false) (word_of form) = subst (λ (p : Parts). All (λ byte. (byte == 32) ≡ false) p.form) word (no_space _ refl _ (call_word call)) in
+    let one = subst (λ (p : Parts). HasNoSpace p.form) word (no_space _ refl _ (call_word call)) in
     let words : words_of line ≡ spelling call =
-    ap words_of begins ∙ slice_split_at (λ byte. byte == 32) (word_of form) 32 rest one refl ∙ ap (λ words. word_of form ∷ words) read.1 ∙ sym (ap (λ (p : Parts). p.form ∷ operands p.names p.numbers) word) in
+    ap words_of begins ∙ slice_split_at (λ byte. byte == 32) (word_of form) 32 rest one refl
+    ∙ ap (λ words. word_of form ∷ words) read.1 ∙ sym (ap (λ (p : Parts). p.form ∷ operands p.names p.numbers) word) in
     (and_from _ _ whole is.1, sym (join_with_byte-slice_split 32 line) ∙ ap (join_with_byte 32) words)
 
 -- the first word and the others of a line that stands for a call

@@ -1,5 +1,5 @@
 -- How long a line can be.
-use Rattle.std.proofs.Common.{◌≡◌, ℕ, ◌+◌, ◌*◌, ◌^◌, ◌<◌, ◌≤◌, true, List, [], ◌∷◌, ◌++◌, length, Some, None, refl, ap, length-append, lit<, lit≤, arith}
+use Rattle.std.proofs.Common.{◌≡◌, ℕ, ◌+◌, ◌*◌, ◌^◌, ◌≤◌, true, List, [], ◌∷◌, length, Some, refl, ap, length-append, lit<, lit≤, arith}
 use Rattle.std.specs.Prelude.{codes}
 use Rattle.std.specs.Fmt.{decimal, digits}
 use Rattle.std.specs.List.{join_with_byte, list_all}
@@ -7,8 +7,8 @@ use Rattle.std.proofs.lemmas.Bool.{and_parts, ltb-true}
 use Rattle.std.proofs.lemmas.Fmt.{length-decimal-le}
 use Rattle.band_script.specs.declared.call.Call.{Call}
 use Rattle.band_script.specs.declared.call.Call.TheVariants as calls
-use Rattle.band_script.specs.Call.{operands, parts, spelling}
-use Rattle.band_script.specs.Grammar.{IsLine}
+use Rattle.band_script.specs.Call.{operands, parts}
+use Rattle.band_script.specs.Grammar.{IsLine, line_of}
 use Rattle.band_script.specs.Name.{is_name}
 use Rattle.band_script.specs.Number.{is_number}
 use Rattle.band_script.proofs.GrammarLemmas.{operands_are}
@@ -43,4 +43,4 @@ unfolding digits
 longest_line_is =
     let name = codes "abcdefghijklmnopqrstuvwxyz_01234" in
     let call = calls.Ask name name 18446744073709551615 18446744073709551615 in
-    (join_with_byte 32 (spelling call), (call, (refl, refl), refl))
+    (line_of call, (call, (refl, refl), refl))

@@ -1,7 +1,8 @@
 -- A name is ASCII. With zeros after it, it can be found again, and two names compare as before.
-use Rattle.std.proofs.Common.{drop, one-add, ◌≡◌, ℕ, zero, suc, ◌+◌, ◌-◌, ◌<◌, ◌≤◌, Bool, true, false, cond, not, List, [], ◌∷◌, ◌++◌, length, get_or, take, replicate, Less, Equal, Greater, refl, sym, ap, ◌∙◌, subst, append_assoc, length-take, length-drop, arith}
+use Rattle.std.proofs.Common.{drop, ◌≡◌, ℕ, zero, suc, ◌+◌, ◌-◌, ◌<◌, ◌≤◌, Bool, true, false, cond, not, List, [], ◌∷◌, ◌++◌, length, get_or, take}
+use Rattle.std.proofs.Common.{replicate, Less, Equal, Greater, refl, sym, ap, ◌∙◌, subst, append_assoc, length-take, arith}
 use Rattle.std.specs.Prelude.{◌==◌, ◌&&◌}
-use Rattle.std.specs.List.{All, list_all, position, position_or_len, prefix_len}
+use Rattle.std.specs.List.{list_all, position, position_or_len, prefix_len}
 use Rattle.std.specs.Option.{unwrap_or}
 use Rattle.std.specs.Ordering.{nat_cmp, ordering_then}
 use Rattle.std.specs.Cmp.{tied_itself}
@@ -9,14 +10,14 @@ use Rattle.std.specs.Cmp.Lexicographic.{slice_cmp, nat_list_cmp_total}
 use Rattle.std.specs.Str.{IsAscii}
 use Rattle.std.proofs.lemmas.Bool.{and_parts, and_from, le-leb, leb-true}
 use Rattle.std.proofs.lemmas.Bool.Decides.{nat_tests}
-use Rattle.std.proofs.lemmas.List.{get_or-take, take_all, take_more}
+use Rattle.std.proofs.lemmas.List.{get_or-take, take_more}
 use Rattle.std.proofs.lemmas.List.Sums.{AllPass-from_list_all, take_while-cons, prefix_len-le-length, prefix_len_is}
 use Rattle.std.proofs.Math.ListN.{set}
 use Rattle.std.proofs.Math.Seq.{drop-append_seam, set-append_seam}
 use Rattle.std.proofs.lemmas.Str.Ascii.{IsAscii-from_all}
 use Rattle.band_script.specs.Name.{is_name_byte, is_name}
 use Rattle.band_script.specs.Inner.Reading.{Ends}
-use Rattle.band_script.proofs.WordLemmas.{no_space}
+use Rattle.band_script.proofs.WordLemmas.{HasNoSpace, no_space}
 use Rattle.band_script.proofs.Fronts.{front_of_word, passes_front}
 use Rattle.band_script.specs.Inner.Stored.{padded, name_in}
 
@@ -58,7 +59,8 @@ until_zero bytes end is =
     ap (λ n. take n bytes) at
 
 -- zeros up to one length leave the order of two names as it is
-cmp_before_zeros : (a b : List ℕ) (m n : ℕ) → list_all is_name_byte a ≡ true → list_all is_name_byte b ≡ true → length a + m ≡ length b + n → slice_cmp nat_cmp (a ++ replicate m 0) (b ++ replicate n 0) ≡ slice_cmp nat_cmp a b
+cmp_before_zeros : (a b : List ℕ) (m n : ℕ) → list_all is_name_byte a ≡ true → list_all is_name_byte b ≡ true → length a + m ≡ length b + n
+    → slice_cmp nat_cmp (a ++ replicate m 0) (b ++ replicate n 0) ≡ slice_cmp nat_cmp a b
 cmp_before_zeros [] [] m n first second same =
     let e : m ≡ n = omega arith in
     subst (λ k. slice_cmp nat_cmp (replicate m 0) (replicate k 0) ≡ Equal) e (tied_itself nat_list_cmp_total (replicate m 0))
@@ -137,7 +139,7 @@ kept_name text kept n is within some same =
     let name : name_in kept ≡ take n text = ap name_in same ∙ name_in_padded (take n text) is_one in
     (rw name is_one, name)
 
-pub name_has_no_space : (name : List ℕ) → is_name name ≡ true → All (λ byte. (byte == 32) ≡ false) name
+pub name_has_no_space : (name : List ℕ) → is_name name ≡ true → HasNoSpace name
 name_has_no_space name is = no_space is_name_byte refl name (and_parts _ _ is).1
 
 pub name_length : (name : List ℕ) → is_name name ≡ true → length name ≤ 32

@@ -1,9 +1,9 @@
 -- The digits at the front of a text, and the number that they write.
-use Rattle.std.proofs.Common.{subst, take-take, take-append-drop, ◌≡◌, ℕ, Option, Some, None, inl, inr, ◌⊎◌, lit<, lit≤, ◌+◌, ◌*◌, ◌-◌, ◌^◌, ◌<◌, ◌≤◌, true, false, List, [], ◌∷◌, ◌++◌, length, take, drop, get_or, refl, sym, ap, ◌∙◌, below_more, arith, rules}
-use Rattle.std.specs.Prelude.{◌==◌}
+use Rattle.std.proofs.Common.{subst, take-take, take-append-drop, ◌≡◌, ℕ, Option, Some, None, inl, inr, ◌⊎◌, lit<, lit≤, ◌+◌, ◌*◌, ◌-◌, ◌^◌, ◌<◌, ◌≤◌}
+use Rattle.std.proofs.Common.{true, false, List, [], ◌∷◌, ◌++◌, length, take, drop, get_or, refl, sym, ap, ◌∙◌, below_more, arith, rules}
 use Rattle.std.specs.Char.{is_ascii_digit, digit_value}
 use Rattle.std.specs.Fmt.{decimal}
-use Rattle.std.specs.List.{All, list_all, prefix_len, take_while}
+use Rattle.std.specs.List.{list_all, prefix_len, take_while}
 use Rattle.std.specs.Borrow.{Bor}
 use Rattle.std.specs.Str.Parse.{digits_value}
 use Rattle.std.proofs.lemmas.Bool.{cases_lt, false≢true, ltb-true, lt-ltb, and_parts, and_from, leb-true, le-leb}
@@ -14,7 +14,7 @@ use Rattle.std.proofs.lemmas.List.Sums.{prefix_len_is, prefix_len_stops}
 use Rattle.std.proofs.lemmas.Str.Parse.{IsNumeralModel, IsDigitsTest, numerals_by_value, digits_value-take-le}
 use Rattle.band_script.specs.Inner.Reading.{Ends, ReadsDigits, ReadsFrontNumber}
 use Rattle.band_script.specs.Number.{IsNumber, is_number}
-use Rattle.band_script.proofs.WordLemmas.{no_space}
+use Rattle.band_script.proofs.WordLemmas.{HasNoSpace, no_space}
 use Rattle.band_script.proofs.Fronts.{cut_of_word, from_place, front_some, passes_whole_front}
 
 digit_is : (byte : ℕ) → is_ascii_digit byte ≡ true → digit_value byte ≡ byte - 48
@@ -115,7 +115,7 @@ digits_front text (Some read) low high some is =
     let spelt : decimal (digits_value 10 digits) ≡ digits = decimal-digits_value own digits are length_some (λ zero. absurd (omega (arith, first.0))) fits in
     (is.1, rw (is.0, spelt, is.2) (sym cut), λ n rest is_one ends same. (only_number text n rest is_one ends same).1 ∙ sym is.2)
 
-pub number_has_no_space : (n : ℕ) → is_number n ≡ true → All (λ byte. (byte == 32) ≡ false) (decimal n)
+pub number_has_no_space : (n : ℕ) → is_number n ≡ true → HasNoSpace (decimal n)
 number_has_no_space n is = no_space is_ascii_digit refl (decimal n) (decimal_are_digits n is)
 
 pub value_of_number : (n : ℕ) → is_number n ≡ true → digits_value 10 (decimal n) ≡ n

@@ -9,8 +9,11 @@ use Rattle.std.proofs.lemmas.List.Sums.{AllPass-from_list_all}
 use Rattle.band_script.specs.Grammar.{words_of}
 use Rattle.band_script.specs.Inner.Reading.{Ends, ReadsFront, spaced, words_in}
 
--- a word has no space where its bytes pass a test that a space fails
-pub no_space : (p : ℕ → Bool) → p 32 ≡ false → (word : List ℕ) → list_all p word ≡ true → All (λ byte. (byte == 32) ≡ false) word
+abbrev pub HasNoSpace : List ℕ → Type 0
+HasNoSpace word = All (λ byte. (byte == 32) ≡ false) word
+
+-- a word has none where its bytes pass a test that a space fails
+pub no_space : (p : ℕ → Bool) → p 32 ≡ false → (word : List ℕ) → list_all p word ≡ true → HasNoSpace word
 no_space p space word are = λ k d within. apart (get_or word k d) (AllPass-from_list_all p word are k d within)
   where
     by_test : (byte : ℕ) (same : Bool) → (byte == 32) ≡ same → p byte ≡ true → same ≡ false
@@ -25,7 +28,7 @@ pub some_word : (text : List ℕ) → words_of text ≡ [] → ⊥
 some_word text none = omega (arith, ap length none, length-slice_split (λ byte. byte == 32) text)
 
 -- the first word is cut off at its end
-pub first_word : (word : List ℕ) (rest : Option (Bor (List ℕ))) → All (λ byte. (byte == 32) ≡ false) word → words_of (word ++ spaced rest) ≡ word ∷ words_in rest
+pub first_word : (word : List ℕ) (rest : Option (Bor (List ℕ))) → HasNoSpace word → words_of (word ++ spaced rest) ≡ word ∷ words_in rest
 first_word word None one = rw (append-nil word) (slice_split_none (λ byte. byte == 32) word one)
 first_word word (Some text) one = slice_split_at (λ byte. byte == 32) word 32 text.now one refl
 
@@ -46,6 +49,6 @@ module _ {A : Type 0} (Is : A → Type 0) (spells : A → List ℕ) (text : List
       let behind = behind_first text (spells a) more are in
       on (subst Ends (front.2 a behind.0 is behind.1 behind.2) behind.1)
 
-  pub first_read : (read : A × Bor (List ℕ)) (rest : Option (Bor (List ℕ))) → ReadsFront Is spells text (Some read) → read.1.now ≡ spaced rest → All (λ byte. (byte == 32) ≡ false) (spells read.0)
+  pub first_read : (read : A × Bor (List ℕ)) (rest : Option (Bor (List ℕ))) → ReadsFront Is spells text (Some read) → read.1.now ≡ spaced rest → HasNoSpace (spells read.0)
       → words_of text ≡ spells read.0 ∷ words_in rest
   first_read read rest front after one = ap words_of (front.1 ∙ ap (λ left. spells read.0 ++ left) after) ∙ first_word (spells read.0) rest one

@@ -3,7 +3,8 @@ use Rattle.std.specs.Prelude.{ℕ, Bool, true, ◌&&◌, nat_lt, List, [], ◌�
 use Rattle.std.specs.Fmt.{decimal}
 use Rattle.std.specs.List.{list_all}
 use Rattle.band_script.specs.declared.call.Call.{Call}
-use Rattle.band_script.specs.declared.call.Call.TheVariants.{Sem, Mutex, Rw, Ask, Lock, Read, Write, Poll, Drop, Try, TryLock, TryRead, TryWrite, Release, Reduce, Drain, Forget, Split, Merge, Downgrade, Status}
+use Rattle.band_script.specs.declared.call.Call.TheVariants.{Sem, Mutex, Rw, Ask, Lock, Read, Write, Poll, Drop, Try}
+use Rattle.band_script.specs.declared.call.Call.TheVariants.{TryLock, TryRead, TryWrite, Release, Reduce, Drain, Forget, Split, Merge, Downgrade, Status}
 use Rattle.band_script.specs.Name.{is_name}
 use Rattle.band_script.specs.Number.{is_number}
 
@@ -40,7 +41,7 @@ parts (Merge kept spent) = written (codes "merge") (kept ∷ spent ∷ []) []
 parts (Downgrade name) = written (codes "downgrade") (name ∷ []) []
 parts (Status name) = written (codes "status") (name ∷ []) []
 
--- the words after that of the form
+-- the words after that of the form: a number is written in decimal
 abbrev pub operands : List (List ℕ) → List ℕ → List (List ℕ)
 operands names numbers = names ++ map decimal numbers
 
@@ -48,7 +49,7 @@ operands names numbers = names ++ map decimal numbers
 abbrev pub spelling : Call → List (List ℕ)
 spelling call = (parts call).form ∷ operands (parts call).names (parts call).numbers
 
--- names that are some, and numbers
+-- each name is one, and each number
 abbrev pub are_operands : List (List ℕ) → List ℕ → Bool
 are_operands names numbers = list_all is_name names && list_all is_number numbers
 
@@ -60,7 +61,7 @@ has_readers call = true
 abbrev pub ForReaders : Call → Type 0
 ForReaders call = IsTrue (has_readers call)
 
--- a call that a script can write
+-- a call that a line can stand for
 abbrev pub is_call : Call → Bool
 is_call call = are_operands (parts call).names (parts call).numbers && has_readers call
 

@@ -1,4 +1,4 @@
--- What the contracts of private functions cite. No user of the crate needs it.
+-- What private functions say, and how a name is kept. No clause of a public call cites it.
+pub mod Forms
 pub mod Reading
 pub mod Stored
-pub mod Forms

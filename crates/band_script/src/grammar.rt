@@ -10,7 +10,7 @@ ghost use Rattle.band_script.specs.Inner.Forms.{word_of};
 use crate::Call;
 use crate::form::{Form, NameNumber, OneName, TwoNames, TwoNamesNumber, split_form};
 use crate::operands::{
-    name_option, name_number, one_name, two_names, two_names_number, two_names_two_numbers,
+    name_number, name_option, one_name, two_names, two_names_number, two_names_two_numbers,
 };
 
 /// The call that a line, given without its newline, stands for, if it stands for one.
@@ -32,7 +32,8 @@ pub fn parse_line(line: &[u8]) -> Option<Call>
     }
 }
 
-// Each of these is a function of its own when it runs, too: where they all stand in one, names are moved about piece by piece.
+// Each of these stays a function of its own when it runs: where they all stand in one, names are moved about piece by
+// piece.
 
 #[inline(never)]
 fn read_one_name(form: OneName, rest: &[u8]) -> Option<Call>

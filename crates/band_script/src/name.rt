@@ -95,8 +95,8 @@ fn is_name_byte(byte: u8) -> bool
     NAME_BYTES[byte as usize]
 }
 
-/// Whether each byte is one of a name, 32 bytes a row: `0` to `9` in the second, `_` at the end of the third, `a` to `z`
-/// in the fourth.
+/// Whether each byte is one of a name, 32 bytes a row: `0` to `9` in the second, `_` at the end of the third, and `a`
+/// to `z` in the fourth.
 static NAME_BYTES: [bool; 256] = [
     N, N, N, N, N, N, N, N, N, N, N, N, N, N, N, N, N, N, N, N, N, N, N, N, N, N, N, N, N, N, N, N,
     N, N, N, N, N, N, N, N, N, N, N, N, N, N, N, N, Y, Y, Y, Y, Y, Y, Y, Y, Y, Y, N, N, N, N, N, N,

@@ -26,7 +26,11 @@ fn shows_calls(rt: HostRuntime) -> Result<(), Fail> {
     ];
     for (line, shown) in table {
         let call = parse_line(line.as_bytes());
-        assert_eq!(rt; format!(in rt.alloc(); "{call:?}")?.as_str(), shown, "at {line}");
+        assert_eq!(rt;
+            format!(in rt.alloc(); "{call:?}")?.as_str(),
+            shown,
+            "at {line}"
+        );
     }
     Ok(())
 }
@@ -36,6 +40,7 @@ fn keeps_a_call(rt: HostRuntime) -> Result<(), Fail> {
     let name = Name::from_word(b"o").ok_or("no name")?;
     let call = Call::Status { name };
     assert_eq!(rt; call.clone()?, call);
+    assert_eq!(rt; call.copy(), call);
     Ok(())
 }
 

@@ -1,10 +1,10 @@
 pub mod Held
-pub mod Lawful
-pub mod Laws
-pub mod Line
-pub mod Orderly
 pub mod Own
-pub mod Parts
-pub mod Places
-pub mod Slots
 pub mod Whole
+mod Lawful
+mod Laws
+mod Line
+mod Orderly
+mod Parts
+mod Places
+mod Slots

@@ -1,10 +1,11 @@
 -- The calls by which a semaphore stays one of n permits.
-use Rattle.std.proofs.Common.{◌≡◌, ℕ, ◌+◌, ◌-◌, ◌==◌, ◌<◌, ◌≤◌, ◌||◌, ◌&&◌, Bool, true, false, cond, List, [], ◌∷◌, ◌++◌, map, Option, Some, None, Result, Ok, Err, ℤ, pos, ◌+ℤ◌, ◌-ℤ◌, ◌≤ℤ◌, int_le, refl, ap₂, arith, length}
+use Rattle.std.proofs.Common.{◌≡◌, ℕ, ◌+◌, ◌-◌, ◌==◌, ◌<◌, ◌≤◌, ◌||◌, ◌&&◌, Bool, true, false, cond, List, [], ◌∷◌, ◌++◌, map, Option, Some, None, Result, Ok, Err, ℤ, pos, ◌+ℤ◌, ◌-ℤ◌, ◌≤ℤ◌, int_le, int_lt, unsigned_abs, refl, ap₂, arith, length}
 use Rattle.std.specs.List.{AllByRecursion}
+use Rattle.std.proofs.Math.Nat.{min-le_right}
 use Rattle.std.proofs.lemmas.Int.{ints}
 use Rattle.std.proofs.lemmas.Bool.{cond_both}
 use Rattle.std.specs.Prelude.{IsTrue}
-use Rattle.band_balance.specs.Line.{Entry, Waiting, Line, requests, total, entry_of, entry_named, without, nobody_waits, is_served, give_back, cancel, withdraw, settle, settle_from}
+use Rattle.band_balance.specs.Line.{Entry, Waiting, Line, requests, total, entry_of, entry_named, without, nobody_waits, is_served, available, drained, give_back, cancel, withdraw, settle, settle_from}
 use Rattle.band_balance.proofs.Settle.{total-cons, total-without, free-total-give_back, free-total-cancel}
 use Rattle.band_balance.proofs.Rename.{all_of_first}
 use Rattle.band_balance.proofs.Requests.{all-requests-give_back, all-requests-cancel, all-requests-join, all-requests-poll_granted, all-requests-poll_waiting, all-without}
@@ -13,7 +14,7 @@ use Rattle.band_base.specs.declared.poll.Poll.TheVariants as polls
 use Rattle.band_base.specs.declared.poll.PollError.{PollError}
 use Rattle.band_base.specs.declared.poll.PollError.TheVariants as errors
 use Rattle.band_base.specs.declared.waker.Waker.{Waker}
-use Rattle.band_sem.specs.Semaphore.{SemaphoreState, is_slot, new_state, taken, given_back, joined, received, with_waker, without_request, woken, TakesWake, FirstPoll, LaterPoll}
+use Rattle.band_sem.specs.Semaphore.{SemaphoreState, is_slot, taken, released, reduced, forgotten, given_back, joined, received, with_waker, without_request, woken, TakesWake, FirstPoll, LaterPoll}
 use Rattle.band_sem.specs.Permit.{Permit}
 use Rattle.band_sem.specs.Request.{Request}
 use Rattle.band_sem.specs.Whole.{IsWhole, StaysWhole}
@@ -48,9 +49,8 @@ only is (e ∷ es) found there alone = go (is e.name) there alone
     go false there alone = cc
 
 -- what the rest of the facts rest on
-pub is_whole : (n : ℕ) (state : SemaphoreState) → 0 < n → pos 0 ≤ℤ state.line.free → state.line.free +ℤ pos (total state.line.granted + state.held) ≡ pos n → Asks (requests state.line) → IsWhole n state
-is_whole n state some none_owed adds_up asks = record {
-  some = some;
+is_whole : (n : ℕ) (state : SemaphoreState) → pos 0 ≤ℤ state.line.free → state.line.free +ℤ pos (total state.line.granted + state.held) ≡ pos n → Asks (requests state.line) → IsWhole n state
+is_whole n state none_owed adds_up asks = record {
   none_owed = none_owed;
   adds_up = adds_up;
   each_asks = asks;
@@ -114,19 +114,10 @@ some_when_not_served size line waits = go (size == 0) refl waits
     go true is h = cc
     go false is h = grind arith
 
-pub IsWhole-new : (n number : ℕ) → 0 < n → IsWhole n (new_state number n)
-IsWhole-new n number some = is_whole n _ some (unowed n) (all n) tt
-  where
-    unowed : (n : ℕ) → pos 0 ≤ℤ pos n
-    unowed n = omega (arith, ints)
-
-    all : (n : ℕ) → pos n +ℤ pos 0 ≡ pos n
-    all n = omega (arith, ints)
-
 module _ (n : ℕ) (state : SemaphoreState) (is : IsWhole n state) where
   IsWhole-taken : (k : ℕ) → is_served k state.line ≡ true → IsWhole n (taken k state)
   IsWhole-taken k served =
-      is_whole n _ is.some (left k state.line.free is.none_owed (served_fits k state.line served)) (same k state.line.free (total state.line.granted) state.held is.adds_up) is.each_asks
+      is_whole n _ (left k state.line.free is.none_owed (served_fits k state.line served)) (same k state.line.free (total state.line.granted) state.held is.adds_up) is.each_asks
     where
       left : (k : ℕ) (z : ℤ) → pos 0 ≤ℤ z → (0 < k → pos k ≤ℤ z) → pos 0 ≤ℤ (z -ℤ pos k)
       left k z unowed fits = grind (arith, ints)
@@ -136,11 +127,11 @@ module _ (n : ℕ) (state : SemaphoreState) (is : IsWhole n state) where
 
   IsWhole-joined : (slot size waker : ℕ) → is_served size state.line ≡ false → IsWhole n (joined slot size waker state)
   IsWhole-joined slot size waker waits =
-      is_whole n _ is.some is.none_owed is.adds_up (all-requests-join (λ (e : Entry ℕ). 0 < e.size) slot size waker state.line is.each_asks (some_when_not_served size state.line waits))
+      is_whole n _ is.none_owed is.adds_up (all-requests-join (λ (e : Entry ℕ). 0 < e.size) slot size waker state.line is.each_asks (some_when_not_served size state.line waits))
 
   pub IsWhole-given_back : (k : ℕ) → k ≤ state.held → IsWhole n (given_back k state)
   IsWhole-given_back k held =
-      is_whole n _ is.some
+      is_whole n _
       (settles_unowed (state.line.free +ℤ pos k) state.line.waiting state.line.granted state.line.wakes (more k state.line.free is.none_owed))
       (same k state.line.free (give_back k state.line).free (total state.line.granted) (total (give_back k state.line).granted) state.held held (free-total-give_back k state.line) is.adds_up)
       (all-requests-give_back (λ (e : Entry ℕ). 0 < e.size) k state.line is.each_asks)
@@ -153,7 +144,7 @@ module _ (n : ℕ) (state : SemaphoreState) (is : IsWhole n state) where
 
   IsWhole-without_request : (slot : ℕ) → IsWhole n (without_request slot state)
   IsWhole-without_request slot =
-      is_whole n _ is.some
+      is_whole n _
       (unowed (entry_named (is_slot slot) state.line.granted))
       (same state.line.free (cancel (is_slot slot) state.line).free (total state.line.granted) (total (cancel (is_slot slot) state.line).granted) state.held (free-total-cancel (is_slot slot) state.line) is.adds_up)
       (all-requests-cancel (λ (e : Entry ℕ). 0 < e.size) (is_slot slot) state.line is.each_asks)
@@ -170,7 +161,7 @@ module _ (n : ℕ) (state : SemaphoreState) (is : IsWhole n state) where
 
   IsWhole-received : (slot k : ℕ) → entry_named (is_slot slot) state.line.granted ≡ Some (record { name = slot; size = k }) → IsWhole n (received slot k state)
   IsWhole-received slot k there =
-      is_whole n _ is.some is.none_owed
+      is_whole n _ is.none_owed
       (same k state.line.free (total (without (is_slot slot) state.line.granted)) (total state.line.granted) state.held (total-without (is_slot slot) state.line.granted _ there) is.adds_up)
       (all-requests-poll_granted (λ (e : Entry ℕ). 0 < e.size) (is_slot slot) state.line is.each_asks)
     where
@@ -179,14 +170,58 @@ module _ (n : ℕ) (state : SemaphoreState) (is : IsWhole n state) where
 
   IsWhole-with_waker : (slot waker : ℕ) → IsWhole n (with_waker slot waker state)
   IsWhole-with_waker slot waker =
-      is_whole n _ is.some is.none_owed is.adds_up (all-requests-poll_waiting (λ (e : Entry ℕ). 0 < e.size) (is_slot slot) waker state.line is.each_asks)
+      is_whole n _ is.none_owed is.adds_up (all-requests-poll_waiting (λ (e : Entry ℕ). 0 < e.size) (is_slot slot) waker state.line is.each_asks)
 
   IsWhole-woken : IsWhole n (woken state)
-  IsWhole-woken = is_whole n _ is.some is.none_owed is.adds_up is.each_asks
+  IsWhole-woken = is_whole n _ is.none_owed is.adds_up is.each_asks
 
 is_true : (b : Bool) → IsTrue b → b ≡ true
 is_true true h = refl
 is_true false h = h
+
+-- what is available is free, where nothing is owed
+available_is_free : (k : ℕ) (line : Line ℕ) → k ≤ available line → pos 0 ≤ℤ line.free → pos k ≤ℤ line.free
+available_is_free k line fits unowed = go (nobody_waits line.waiting && int_lt (pos 0) line.free) fits
+  where
+    none : (k : ℕ) (z : ℤ) → k ≤ 0 → pos 0 ≤ℤ z → pos k ≤ℤ z
+    none k z le u = omega (arith, ints)
+
+    some : (k : ℕ) (z : ℤ) → k ≤ unsigned_abs z → pos 0 ≤ℤ z → pos k ≤ℤ z
+    some k z le u = grind (arith, ints)
+
+    go : (b : Bool) → k ≤ cond b (unsigned_abs line.free) 0 → pos k ≤ℤ line.free
+    go true le = some k line.free le unowed
+    go false le = none k line.free le unowed
+
+-- more or fewer permits than there were
+IsWhole-released : (n k : ℕ) (state : SemaphoreState) → IsWhole n state → IsWhole (n + k) (released k state)
+IsWhole-released n k state is =
+    is_whole (n + k) _
+    (settles_unowed (state.line.free +ℤ pos k) state.line.waiting state.line.granted state.line.wakes (more k state.line.free is.none_owed))
+    (same n k state.line.free (give_back k state.line).free (total state.line.granted) (total (give_back k state.line).granted) state.held (free-total-give_back k state.line) is.adds_up)
+    (all-requests-give_back (λ (e : Entry ℕ). 0 < e.size) k state.line is.each_asks)
+  where
+    more : (k : ℕ) (z : ℤ) → pos 0 ≤ℤ z → pos 0 ≤ℤ (z +ℤ pos k)
+    more k z h = omega (arith, ints)
+
+    same : (n k : ℕ) (z z' : ℤ) (g g' h : ℕ) → z' +ℤ pos g' ≡ z +ℤ pos k +ℤ pos g → z +ℤ pos (g + h) ≡ pos n → z' +ℤ pos (g' + h) ≡ pos (n + k)
+    same n k z z' g g' h moved e = omega (arith, ints)
+
+IsWhole-reduced : (n k : ℕ) (state : SemaphoreState) → pos k ≤ℤ state.line.free → IsWhole (n + k) state → IsWhole n (reduced k state)
+IsWhole-reduced n k state free is =
+    is_whole n _ (left k state.line.free free) (same n k state.line.free (total state.line.granted) state.held is.adds_up) is.each_asks
+  where
+    left : (k : ℕ) (z : ℤ) → pos k ≤ℤ z → pos 0 ≤ℤ (z -ℤ pos k)
+    left k z h = omega (arith, ints)
+
+    same : (n k : ℕ) (z : ℤ) (g h : ℕ) → z +ℤ pos (g + h) ≡ pos (n + k) → (z -ℤ pos k) +ℤ pos (g + h) ≡ pos n
+    same n k z g h e = omega (arith, ints)
+
+IsWhole-forgotten : (n k : ℕ) (state : SemaphoreState) → k ≤ state.held → IsWhole (n + k) state → IsWhole n (forgotten k state)
+IsWhole-forgotten n k state held is = is_whole n _ is.none_owed (same n k state.line.free (total state.line.granted) state.held held is.adds_up) is.each_asks
+  where
+    same : (n k : ℕ) (z : ℤ) (g h : ℕ) → k ≤ h → z +ℤ pos (g + h) ≡ pos (n + k) → z +ℤ pos (g + (h - k)) ≡ pos n
+    same n k z g h le e = omega (arith, ints)
 
 -- the same over each call
 module _ (old new : SemaphoreState) where
@@ -195,6 +230,16 @@ module _ (old new : SemaphoreState) where
 
   pub StaysWhole-taken : (k : ℕ) → is_served k old.line ≡ true → new ≡ taken k old → StaysWhole old new
   StaysWhole-taken k served takes = λ n is. rw takes (IsWhole-taken n old is k served)
+
+  pub whole-released : (k : ℕ) → new ≡ released k old → (m : ℕ) → IsWhole m old → IsWhole (m + k) new
+  whole-released k adds m is = rw adds (IsWhole-released m k old is)
+
+  pub whole-drained : (up_to k : ℕ) → k ≡ drained up_to old.line → new ≡ reduced k old → (m : ℕ) → IsWhole (m + k) old → IsWhole m new
+  whole-drained up_to k count takes m is =
+      rw takes (IsWhole-reduced m k old (available_is_free k old.line (rw count (min-le_right up_to (available old.line))) is.none_owed) is)
+
+  pub whole-forgotten : (k : ℕ) → k ≤ old.held → new ≡ forgotten k old → (m : ℕ) → IsWhole (m + k) old → IsWhole m new
+  whole-forgotten k held forgets m is = rw forgets (IsWhole-forgotten m k old held is)
 
   pub StaysWhole-given_back : (k : ℕ) → k ≤ old.held → new ≡ given_back k old → StaysWhole old new
   StaysWhole-given_back k held gives = λ n is. rw gives (IsWhole-given_back n old is k held)

@@ -6,7 +6,7 @@ pub data Stage : Type 0 where
   NotPolled : Stage
   -- it is in the line under this slot: it waits, or it was granted
   Joined : (slot : ℕ) → Stage
-  -- it gave its permits, or it ended
+  -- it gave its permits
   Finished : Stage
 
 -- what a contract sees of a request: the number of its semaphore, how many permits it asks for, and what it has come to

@@ -1,4 +1,4 @@
--- A semaphore of which all permits are there: none is added, and none is taken away for good. Locks, cells and pools keep one.
+-- A semaphore of which all n permits are there, as locks, cells and pools keep one.
 use Rattle.std.specs.Prelude.{◌≡◌, ℕ, ◌+◌, ◌<◌, ◌≤◌, [], ◌∷◌, pos, ◌+ℤ◌, ◌≤ℤ◌, Some, length}
 use Rattle.std.specs.List.{AllByRecursion}
 use Rattle.band_balance.specs.Line.{Entry, requests, total, entry_named}
@@ -6,8 +6,6 @@ use Rattle.band_sem.specs.Semaphore.{SemaphoreState, is_slot}
 
 -- there are n permits in all, and none is owed
 pub record IsWhole (n : ℕ) (state : SemaphoreState) : Type 0 where
-  -- there is one at least
-  pub some : 0 < n
   pub none_owed : pos 0 ≤ℤ state.line.free
   -- what is free, granted and held is all there is
   pub adds_up : state.line.free +ℤ pos (total state.line.granted + state.held) ≡ pos n

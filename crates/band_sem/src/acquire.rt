@@ -18,7 +18,7 @@ enum Progress {
     NotPolled,
     /// It has this slot of its semaphore, and waits or was granted.
     Joined(u64),
-    /// It gave its permits, or it ended.
+    /// It gave its permits.
     Finished,
 }
 

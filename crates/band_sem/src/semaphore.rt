@@ -1,12 +1,12 @@
 //! The semaphore.
-ghost use Rattle.std.specs.Prelude.{◌≡◌, ◌-◌, ◌<◌, ◌≤◌, ◌↔◌, length, IsTrue, IsSome, IfSome, OnSome, IfNone, IsErrOf, OnOk, OnErr};
+ghost use Rattle.std.specs.Prelude.{◌≡◌, ℕ, ◌+◌, ◌-◌, ◌<◌, ◌≤◌, ◌↔◌, length, IsTrue, IsSome, IfSome, OnSome, IfNone, IsErrOf, OnOk, OnErr};
 ghost use Rattle.band_balance.specs.Line.{total, available, drained, overflows, owes_too_much, is_served};
 ghost use Rattle.band_sem.specs.Permit.{new_permit};
 ghost use Rattle.band_sem.specs.Request.{new_request};
 ghost use Rattle.band_sem.specs.Laws.{KeepsOrder, LeavesOthers};
 ghost use Rattle.band_sem.specs.Semaphore.{SemaphoreState, IsLawful, new_state, taken, given_back, forgotten, released, reduced, without_request, TakesWake};
 ghost use Rattle.band_sem.specs.Kept.Store.{Enters, PollsSlot};
-ghost use Rattle.band_sem.specs.Whole.{StaysWhole};
+ghost use Rattle.band_sem.specs.Whole.{IsWhole, StaysWhole};
 
 use crate::store::{Entrance, Store};
 use crate::{Acquire, ReduceError, ReleaseError, SemaphorePermit};
@@ -117,6 +117,7 @@ impl Semaphore {
         ensures count { result ≡ drained up_to self.old.line }
         ensures state { self.new ≡ reduced result self.old }
         ensures lawful { IsLawful self.new }
+        ensures whole { (m : ℕ) → IsWhole (m + result) self.old → IsWhole m self.new }
     {
         self.store.drain(up_to)
     }
@@ -129,6 +130,7 @@ impl Semaphore {
         ensures err { OnErr result (self.new ≡ self.old) }
         ensures order { KeepsOrder self.old.line self.new.line }
         ensures lawful { IsLawful self.new }
+        ensures whole { OnOk result ((m : ℕ) → IsWhole m self.old → IsWhole (m + n) self.new) }
     {
         if self.store.release(n) {
             Ok(())
@@ -184,6 +186,7 @@ impl Semaphore {
         requires held { p.count ≤ self.old.held }
         ensures state { self.new ≡ forgotten p.count self.old }
         ensures lawful { IsLawful self.new }
+        ensures whole { (m : ℕ) → IsWhole (m + p.count) self.old → IsWhole m self.new }
     {
         self.store.forget(p.permits());
         p.lose();

@@ -3,8 +3,10 @@
 
 pub mod counter;
 pub mod devices;
+pub mod lines;
 pub mod locks;
 pub mod places;
 pub mod refusals;
 pub mod scripts;
 pub mod semaphores;
+pub mod wakers;

@@ -1,6 +1,6 @@
 //! Who writes is alone.
 ghost use Rattle.std.specs.Prelude.{◌≡◌, [], OnSome};
-ghost use Rattle.band_sem.specs.Whole.{IsWhole};
+ghost use Rattle.band_lock.specs.ReaderWriter.{IsWholeLock};
 
 use band_base::{Poll, Steps, Waker};
 use band_lock::{RwLockState, WriteAccess};
@@ -14,7 +14,7 @@ pub fn write_now<L: Ledger>(
 ) -> Option<WriteAccess>
     ensures held { OnSome result (lock.new.shares.held ≡ lock.new.max) }
     ensures alone { OnSome result (lock.new.shares.line.granted ≡ []) }
-    ensures whole { IsWhole lock.new.max lock.new.shares }
+    ensures whole { IsWholeLock lock.new }
 {
     let mut request = lock.write();
     match request.poll_once(lock, waker, steps) {

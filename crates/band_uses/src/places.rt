@@ -9,7 +9,8 @@ use std::sync::ledger::Ledger;
 /// Another takes a permit without waiting, and gives it back.
 pub fn another_comes_and_goes<L: Ledger>(mine: &Acquire, sem: &mut Semaphore, steps: &mut Steps<L>)
     requires { IsOwn mine.now.stage mine.now.size sem.old.line }
-    ensures { IsOwn mine.now.stage mine.now.size sem.new.line }
+    ensures own { IsOwn mine.now.stage mine.now.size sem.new.line }
+    ensures held { sem.old.held ≤ sem.new.held }
 {
     if let Some(permit) = sem.try_acquire(1) {
         sem.drop_permit(permit, steps);
@@ -23,7 +24,8 @@ pub fn permits_come_and_go<L: Ledger>(
     steps: &mut Steps<L>,
 ) -> bool
     requires { IsOwn mine.now.stage mine.now.size sem.old.line }
-    ensures { IsOwn mine.now.stage mine.now.size sem.new.line }
+    ensures own { IsOwn mine.now.stage mine.now.size sem.new.line }
+    ensures held { sem.old.held ≤ sem.new.held }
 {
     match sem.release(1, steps) {
         Ok(()) => match sem.reduce_permits(1, steps) {
@@ -35,11 +37,16 @@ pub fn permits_come_and_go<L: Ledger>(
 }
 
 /// Another's permit ends, and whoever it wakes is told.
-pub fn another_forgets(mine: &Acquire, permit: SemaphorePermit, sem: &mut Semaphore) -> Option<Waker>
+pub fn another_forgets(
+    mine: &Acquire,
+    permit: SemaphorePermit,
+    sem: &mut Semaphore,
+) -> Option<Waker>
     requires own { IsOwn mine.now.stage mine.now.size sem.old.line }
     requires number { permit.of ≡ sem.old.number }
     requires held { permit.count ≤ sem.old.held }
-    ensures { IsOwn mine.now.stage mine.now.size sem.new.line }
+    ensures own { IsOwn mine.now.stage mine.now.size sem.new.line }
+    ensures held { sem.old.held ≤ sem.new.held + permit.count }
 {
     sem.forget(permit);
     sem.take_wake()
@@ -90,6 +97,7 @@ pub fn gives_both_back<L: Ledger>(
     requires held { one.count + two.count ≤ sem.old.held }
     requires number { other.of ≡ sem.old.number }
     requires own { IsOwn other.stage other.size sem.old.line }
+    ensures held { sem.old.held ≤ sem.new.held + (one.count + two.count) }
 {
     another_gives_up(other, sem, steps);
     sem.drop_permit(one, steps);

@@ -1,5 +1,5 @@
 -- The reading of a line, step by step.
-use Rattle.std.specs.Prelude.{◌≡◌, ◌≢◌, ℕ, ◌≤◌, ◌^◌, drop, List, [], ◌∷◌, ◌++◌, map, Option, Some, None, IsTrue}
+use Rattle.std.specs.Prelude.{◌≡◌, ◌≢◌, ℕ, ◌≤◌, ◌^◌, drop, List, [], ◌∷◌, ◌++◌, Option, Some, None, IsTrue}
 use Rattle.std.specs.Borrow.{Bor}
 use Rattle.std.specs.Fmt.{decimal}
 use Rattle.std.specs.Char.{is_ascii_digit}
@@ -10,8 +10,8 @@ use Rattle.band_script.specs.declared.call.Call.{Call}
 use Rattle.band_script.specs.declared.words.Words.{Words}
 use Rattle.band_script.specs.Call.{are_operands, operands}
 use Rattle.band_script.specs.Grammar.{IsLine, words_of}
-use Rattle.band_script.specs.Name.{IsName, is_name}
-use Rattle.band_script.specs.Number.{IsNumber, is_number}
+use Rattle.band_script.specs.Name.{IsName}
+use Rattle.band_script.specs.Number.{IsNumber}
 
 -- what may follow a word: nothing, or a space and more
 abbrev pub Ends : List ℕ → Type 0
@@ -19,10 +19,12 @@ Ends [] = Unit {0}
 Ends (byte ∷ bytes) = byte ≡ 32
 
 -- the front of a text is read as the one word of a kind that can stand there, if one can
-abbrev pub ReadsFront : {A : Type 0} → (A → Type 0) → (A → List ℕ) → List ℕ → Option (A × Bor (List ℕ)) → Type 0
+abbrev pub ReadsFront : {A : Type 0} → (A → Type 0) → (A → List ℕ)
+    → List ℕ → Option (A × Bor (List ℕ)) → Type 0
 ReadsFront {A} Is spells text None = (a : A) (rest : List ℕ) → Is a → Ends rest → text ≢ spells a ++ rest
 ReadsFront {A} Is spells text (Some read) =
-    Is read.0 × (text ≡ spells read.0 ++ read.1.now) × ((a : A) (rest : List ℕ) → Is a → Ends rest → text ≡ spells a ++ rest → rest ≡ read.1.now)
+    Is read.0 × (text ≡ spells read.0 ++ read.1.now)
+    × ((a : A) (rest : List ℕ) → Is a → Ends rest → text ≡ spells a ++ rest → rest ≡ read.1.now)
 
 abbrev pub ReadsFrontName : List ℕ → Option (List ℕ × Bor (List ℕ)) → Type 0
 ReadsFrontName = ReadsFront IsName (λ name. name)
@@ -39,7 +41,8 @@ abbrev pub words_left : Words → List (List ℕ)
 words_left words = words_in words.rest
 
 -- the first of some words is read, if it is of a kind, and others are left
-abbrev pub ReadsFirst : {A : Type 0} → (A → Type 0) → (A → List ℕ) → List (List ℕ) → Option A → List (List ℕ) → Type 0
+abbrev pub ReadsFirst : {A : Type 0} → (A → Type 0) → (A → List ℕ)
+    → List (List ℕ) → Option A → List (List ℕ) → Type 0
 ReadsFirst {A} Is spells words None left = (a : A) (more : List (List ℕ)) → Is a → words ≢ spells a ∷ more
 ReadsFirst {A} Is spells words (Some a) left = Is a × (words ≡ spells a ∷ left)
 
@@ -63,12 +66,16 @@ EndsWord text (Some words) = text ≡ spaced words.rest
 abbrev pub ReadsDigits : List ℕ → Option (ℕ × Bor (List ℕ)) → Type 0
 ReadsDigits text None = 2 ^ 64 ≤ digits_value 10 (take_while is_ascii_digit text)
 ReadsDigits text (Some read) =
-    (read.0 ≡ digits_value 10 (take_while is_ascii_digit text)) × IsNumber read.0 × (read.1.now ≡ drop (prefix_len is_ascii_digit text) text)
+    (read.0 ≡ digits_value 10 (take_while is_ascii_digit text)) × IsNumber read.0
+    × (read.1.now ≡ drop (prefix_len is_ascii_digit text) text)
 
 -- some words are read as names and numbers, if they are so many of each
-abbrev pub ReadsOperands : {A : Type 0} → (A → List (List ℕ)) → (A → List ℕ) → List (List ℕ) → Option A → Type 0
-ReadsOperands {A} names numbers words None = (a : A) → IsTrue (are_operands (names a) (numbers a)) → words ≢ operands (names a) (numbers a)
-ReadsOperands {A} names numbers words (Some a) = IsTrue (are_operands (names a) (numbers a)) × (words ≡ operands (names a) (numbers a))
+abbrev pub ReadsOperands : {A : Type 0} → (A → List (List ℕ)) → (A → List ℕ)
+    → List (List ℕ) → Option A → Type 0
+ReadsOperands {A} names numbers words None =
+    (a : A) → IsTrue (are_operands (names a) (numbers a)) → words ≢ operands (names a) (numbers a)
+ReadsOperands {A} names numbers words (Some a) =
+    IsTrue (are_operands (names a) (numbers a)) × (words ≡ operands (names a) (numbers a))
 
 abbrev pub ReadsOneName : List (List ℕ) → Option (List ℕ) → Type 0
 ReadsOneName = ReadsOperands (λ name. name ∷ []) (λ name. [])

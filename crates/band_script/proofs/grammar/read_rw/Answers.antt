@@ -1,11 +1,7 @@
-use Rattle.std.proofs.Common.{◌≡◌, [], ◌∷◌, Some, None, refl, ap, ◌∙◌, subst, ◌<◌, arith, ℕ}
-use Rattle.std.specs.Prelude.{IsTrue, Option}
-use Rattle.std.specs.Option.{option_to_list}
+use Rattle.std.proofs.Common.{◌≡◌, [], ◌∷◌, Some, None, refl, ◌<◌, arith}
 use Rattle.std.proofs.lemmas.Bool.{lt-ltb}
 use Rattle.band_script.specs.declared.call.Call.TheVariants as calls
 use Rattle.band_script.specs.declared.form.Form.TheVariants as forms
-use Rattle.band_script.specs.Call.{are_operands, operands}
-use Rattle.band_script.specs.Grammar.{words_of}
 use Rattle.band_script.proofs.GrammarLemmas.{no_rw, no_rw_for_none, written_line}
 use Rattle.band_script.proofs.grammar.read_rw.Goals as goal
 
@@ -14,7 +10,8 @@ returns-in_err-made c = rw c.from_residual.ensures (no_rw c.args.rest.now c.in_e
 
 pub returns-in-None : goal.returns-in-None
 returns-in-None c =
-    written_line _ forms.Rw c.args.rest.now (c.in_ok-made.made ∷ []) [] (calls.Rw c.in_ok-made.made None) refl (refl, refl) (rw c.in-None.is at c.in_ok-made.ensures)
+    let call = calls.Rw c.in_ok-made.made None in
+    written_line _ forms.Rw c.args.rest.now (c.in_ok-made.made ∷ []) [] call refl (refl, refl) (rw c.in-None.is at c.in_ok-made.ensures)
 
 pub returns-in-Some-eq0 : goal.returns-in-Some-eq0
 returns-in-Some-eq0 c =
@@ -24,4 +21,6 @@ returns-in-Some-eq0 c =
 pub returns-in-Some : goal.returns-in-Some
 returns-in-Some c =
     let some : 0 < c.in-Some.n = grind arith in
-    written_line _ forms.Rw c.args.rest.now (c.in_ok-made.made ∷ []) (c.in-Some.n ∷ []) (calls.Rw c.in_ok-made.made (Some c.in-Some.n)) refl (refl, lt-ltb _ _ some) (rw c.in-Some.is at c.in_ok-made.ensures)
+    let call = calls.Rw c.in_ok-made.made (Some c.in-Some.n) in
+    let read = rw c.in-Some.is at c.in_ok-made.ensures in
+    written_line _ forms.Rw c.args.rest.now (c.in_ok-made.made ∷ []) (c.in-Some.n ∷ []) call refl (refl, lt-ltb _ _ some) read

@@ -7,4 +7,6 @@ pub returns-in_err-first : goal.returns-in_err-first
 returns-in_err-first c = rw c.from_residual.ensures (no_two_names_number c.args.rest.now c.args.form c.in_err-first.ensures)
 
 pub returns : goal.returns
-returns c = written_line _ (forms.TwoNamesNumber c.args.form) c.args.rest.now (c.in_ok-first.first ∷ c.in_ok-first.second ∷ []) (c.in_ok-first.n ∷ []) c.call.result refl c.call.ensures c.in_ok-first.ensures
+returns c =
+    let read = c.in_ok-first in
+    written_line _ (forms.TwoNamesNumber c.args.form) c.args.rest.now (read.first ∷ read.second ∷ []) (read.n ∷ []) c.call.result refl c.call.ensures read.ensures

@@ -1,4 +1,4 @@
-use Rattle.std.proofs.Common.{sym, ◌∙◌, ap, below_more, arith, ◌≡◌, ◌<◌, length, get_or}
+use Rattle.std.proofs.Common.{sym, ◌∙◌, ap, below_more, arith, ◌≡◌, get_or}
 use Rattle.std.proofs.Math.ListN.{set}
 use Rattle.band_script.proofs.NameLemmas.{front_len, padded_more}
 use Rattle.band_script.proofs.name.copy_name.Goals as goal

@@ -1,4 +1,4 @@
-use Rattle.std.proofs.Common.{◌≡◌, ◌+◌, ◌*◌, ◌-◌, ◌^◌, ◌≤◌, length, get_or, sym, ap, ◌∙◌, below_more, arith, ℕ, take, drop}
+use Rattle.std.proofs.Common.{◌≡◌, ◌+◌, ◌*◌, ◌-◌, ◌^◌, ◌≤◌, length, get_or, sym, ap, ◌∙◌, below_more, arith, take, drop}
 use Rattle.band_script.proofs.NumberLemmas.{digits_read, digits_more, digits_over}
 use Rattle.band_script.proofs.number.split_digits.Goals as goal
 

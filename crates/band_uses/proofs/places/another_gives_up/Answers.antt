@@ -1,6 +1,5 @@
-use Rattle.std.proofs.Common.{ℕ}
 use Rattle.band_sem.proofs.Own.{IsOwn-polled}
-use Rattle.band_sem.proofs.Held.{KeepsHeld, KeepsHeld-polls, KeepsHeld-cancels, KeepsHeld-wakes, KeepsHeld-then}
+use Rattle.band_sem.proofs.Held.{KeepsHeld-polls, KeepsHeld-cancels, KeepsHeld-wakes, KeepsHeld-then}
 use Rattle.band_uses.proofs.places.another_gives_up.Goals as goal
 
 pub cancel-requires-clause-own : goal.cancel-requires-clause-own

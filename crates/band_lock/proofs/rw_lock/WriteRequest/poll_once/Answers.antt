@@ -1,10 +1,10 @@
 use Rattle.band_lock.proofs.rw_lock.WriteRequest.poll_once.Goals as goal
 
 pub invariant_of-l-2 : goal.invariant_of-l-2
-invariant_of-l-2 g c = c.poll_once.ensures.whole c.l.inside.max_readers c.l.invariant
+invariant_of-l-2 g c = record { some = c.l.invariant.some; shares = c.poll_once.ensures.whole c.l.inside.max_readers c.l.invariant.shares }
 
 pub invariant_of-l : goal.invariant_of-l
-invariant_of-l g c = c.poll_once.ensures.whole c.l.inside.max_readers c.l.invariant
+invariant_of-l g c = record { some = c.l.invariant.some; shares = c.poll_once.ensures.whole c.l.inside.max_readers c.l.invariant.shares }
 
 pub returns-clause-whole : goal.returns-clause-whole
-returns-clause-whole g c = c.poll_once.ensures.whole c.l.inside.max_readers c.l.invariant
+returns-clause-whole g c = record { some = c.l.invariant.some; shares = c.poll_once.ensures.whole c.l.inside.max_readers c.l.invariant.shares }

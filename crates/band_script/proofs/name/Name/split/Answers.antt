@@ -1,4 +1,4 @@
-use Rattle.std.proofs.Common.{◌<◌, length, drop, sym, ◌∙◌, ap, ap₂, ◌++◌, arith, take-append-drop}
+use Rattle.std.proofs.Common.{◌<◌, length, sym, ◌∙◌, ap, ap₂, ◌++◌, arith, take-append-drop}
 use Rattle.std.proofs.lemmas.Bool.{leb-true, and_parts}
 use Rattle.band_script.specs.Inner.Stored.{padded}
 use Rattle.band_script.proofs.Fronts.{from_place}
