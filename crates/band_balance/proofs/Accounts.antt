@@ -176,8 +176,10 @@ module _ {N : Type 0} (object : Object N) where
   unmoved : (line : Line N) (held : List (Entry N)) → line.free ≡ object.line.free → line.granted ≡ object.line.granted → total held ≡ total object.held → Accounts object 0 0 line held
   unmoved line held frees grants is =
       moved line held (total object.held) (total object.held) refl is
-      (record { sum = ap₂ (λ z (es : List (Entry N)). z +ℤ pos (total es + total object.held)) frees grants;
-      debt = inr (subst (λ z. object.line.free ≤ℤ z) (sym frees) (least object.line.free), subst (λ (es : List (Entry N)). total es + total object.held ≤ hand object.line object.held) (sym grants) (omega arith)) })
+      (record {
+        sum = ap₂ (λ z (es : List (Entry N)). z +ℤ pos (total es + total object.held)) frees grants;
+        debt = inr (subst (λ z. object.line.free ≤ℤ z) (sym frees) (least object.line.free), subst (λ (es : List (Entry N)). total es + total object.held ≤ hand object.line object.held) (sym grants) (omega arith));
+      })
 
 module _ {K : Type 0} (same : K → K → Bool) (told : TellsApart same) (object : Object (Tag K)) (lets : LetsIn object.kind) where
   or_less : {z : ℤ} {h : ℕ} → (pos 0 ≤ℤ z) ⊎ ((object.line.free ≤ℤ z) × (h ≤ hand object.line object.held))

@@ -1,5 +1,5 @@
 -- Whom a rule grants and wakes: a front of those that wait, and nobody where nothing is given back.
-use Rattle.std.proofs.Common.{◌≡◌, ℕ, ◌+◌, ◌-◌, Bool, true, false, cond, List, [], ◌∷◌, ◌++◌, map, Option, Some, None, pos, ℤ, ◌-ℤ◌, ◌<ℤ◌, ◌≤ℤ◌, int_le, ◌⊎◌, inl, inr, arith, refl, sym, ap, ap₂, ◌∙◌, subst, append_assoc, append-nil}
+use Rattle.std.proofs.Common.{◌≡◌, ℕ, ◌-◌, Bool, true, false, cond, List, [], ◌∷◌, ◌++◌, map, Option, Some, None, pos, ℤ, ◌-ℤ◌, ◌<ℤ◌, ◌≤ℤ◌, int_le, ◌⊎◌, inl, inr, arith, refl, sym, ap, ap₂, ◌∙◌, subst, append_assoc, append-nil}
 use Rattle.std.specs.List.{AllByRecursion, filter}
 use Rattle.std.proofs.lemmas.Bool.{cond_both, or_from, or_parts, or_left, or_right, false≢true}
 use Rattle.std.proofs.lemmas.Int.{ints}
@@ -17,7 +17,7 @@ use Rattle.band_balance.proofs.Rename.{all_of_first, all_of_second}
 use Rattle.band_balance.proofs.Requests.{all-weaker, all-without, all-found, found_is_named, all-not_named, requests-poll_granted, requests-cancel, entries-without_waiting, without-append_none}
 use Rattle.band_balance.proofs.Settle.{passed, left, wakers, passed-left, requests-settle, granted-settle, waiting-settle, wakes-settle}
 use Rattle.band_balance.proofs.Shares.{both_of_each}
-use Rattle.band_balance.proofs.Turns.{Becomes, stays, receives, returns, ends, comes, lowers}
+use Rattle.band_balance.proofs.Turns.{Becomes, receives, returns, ends, comes, lowers}
 
 -- what holds always holds of each
 pub each_always : {A : Type 0} (P : A → Type 0) → ((x : A) → P x) → (xs : List A) → AllByRecursion P xs

@@ -11,7 +11,7 @@ use Rattle.band_balance.proofs.Held.{TellsApart, other_way, all-change}
 use Rattle.band_balance.proofs.Rename.{all_of_first, all_of_both}
 use Rattle.band_balance.proofs.Requests.{all-weaker, all-without, all-found, all-not_named, requests-join, requests-give_back, requests-poll_waiting, requests-poll_granted, requests-cancel}
 use Rattle.band_balance.proofs.Settle.{HeadWaits-give_back, HeadWaits-cancel, HeadWaits-take_permits, HeadWaits-poll_granted, HeadWaits-poll_waiting, HeadWaits-join}
-use Rattle.band_balance.proofs.Turns.{Becomes, stays, takes, joins, receives, rewakes, returns, ends, comes, goes, drains, forgets, splits, merges, lowers}
+use Rattle.band_balance.proofs.Turns.{Becomes, takes, joins, receives, rewakes, returns, ends, comes, goes, drains, forgets, splits, merges, lowers}
 
 -- What holds pairwise goes on where one leaves, where one joins, and where it says more.
 module _ {X : Type 0} where

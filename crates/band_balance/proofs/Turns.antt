@@ -45,12 +45,16 @@ write_of (ReaderWriter max) is = (max, refl)
 module _ {K : Type 0} (same : K → K → Bool) (object : Object (Tag K)) where
   asks : (made : Tag K) (size waker : ℕ) (served : Bool) → is_served size object.line ≡ served → IsAllowed same (Ask made size waker) object → TurnsBy same object (Ask made size waker)
   asks made size waker true served allowed = record {
-    answer = Ready; line = take_permits size object.line; held = hold made size object.held;
+    answer = Ready;
+    line = take_permits size object.line;
+    held = hold made size object.held;
     turns = cond-true _ _ _ served;
     becomes = subst (λ who. Becomes same object false 0 0 who (take_permits size object.line) (hold made size object.held)) (sym (cond-true _ _ _ served)) (takes made size served allowed.1);
   }
   asks made size waker false waits allowed = record {
-    answer = Pending; line = join made size waker object.line; held = object.held;
+    answer = Pending;
+    line = join made size waker object.line;
+    held = object.held;
     turns = cond-false _ _ _ waits;
     becomes = subst (λ who. Becomes same object false 0 0 who (join made size waker object.line) object.held) (sym (cond-false _ _ _ waits)) (joins made size waker waits allowed.0 allowed.1);
   }
@@ -61,50 +65,66 @@ module _ {K : Type 0} (same : K → K → Bool) (object : Object (Tag K)) where
 
   polls : (name : K) (waker : ℕ) (found : Option (Entry (Tag K))) → entry_named (is same name) object.line.granted ≡ found → TurnsBy same object (Poll name waker)
   polls name waker (Some entry) there = record {
-    answer = Ready; line = poll_granted (is same name) object.line; held = object.held ++ entry ∷ [];
+    answer = Ready;
+    line = poll_granted (is same name) object.line;
+    held = object.held ++ entry ∷ [];
     turns = ap (λ found. poll_of found (is same name) waker object) there;
     becomes = receives name entry there;
   }
   polls name waker None there = record {
-    answer = Pending; line = poll_waiting (is same name) waker object.line; held = object.held;
+    answer = Pending;
+    line = poll_waiting (is same name) waker object.line;
+    held = object.held;
     turns = ap (λ found. poll_of found (is same name) waker object) there;
     becomes = rewakes name waker;
   }
 
   drops : (name : K) (found : Option (Entry (Tag K))) → entry_named (is same name) object.held ≡ found → TurnsBy same object (Drop name)
   drops name (Some entry) there = record {
-    answer = Done; line = give_back entry.size object.line; held = without (is same name) object.held;
+    answer = Done;
+    line = give_back entry.size object.line;
+    held = without (is same name) object.held;
     turns = ap (λ found. drop_of found (is same name) object) there;
     becomes = returns name entry there;
   }
   drops name None there = record {
-    answer = Done; line = cancel (is same name) object.line; held = object.held;
+    answer = Done;
+    line = cancel (is same name) object.line;
+    held = object.held;
     turns = ap (λ found. drop_of found (is same name) object) there;
     becomes = ends name;
   }
 
   splits_by : (name made : K) (n : ℕ) (it : Holds same Permit name object) (enough : Bool) → nat_le n it.entry.size ≡ enough → TurnsBy same object (Split name made n)
   splits_by name made n it true enough = record {
-    answer = Done; line = object.line; held = hold (tag Permit made) n (change (is same name) (λ e. record e { size = it.entry.size - n }) object.held);
+    answer = Done;
+    line = object.line;
+    held = hold (tag Permit made) n (change (is same name) (λ e. record e { size = it.entry.size - n }) object.held);
     turns = ap (λ found. split_of found (is same name) (tag Permit made) n object) it.there ∙ cond-true _ _ _ enough;
     becomes = splits name made n it (leb-true n it.entry.size enough);
   }
   splits_by name made n it false more = record {
-    answer = Nothing; line = object.line; held = object.held;
+    answer = Nothing;
+    line = object.line;
+    held = object.held;
     turns = ap (λ found. split_of found (is same name) (tag Permit made) n object) it.there ∙ cond-false _ _ _ more;
     becomes = stays;
   }
 
   merged : (kept spent : K) (it : Holds same Permit kept object) (other : Holds same Permit spent object) → same kept spent ≡ false → TurnsBy same object (Merge kept spent)
   merged kept spent it other apart = record {
-    answer = Done; line = object.line; held = without (is same spent) (change (is same kept) (λ e. record e { size = it.entry.size + other.entry.size }) object.held);
+    answer = Done;
+    line = object.line;
+    held = without (is same spent) (change (is same kept) (λ e. record e { size = it.entry.size + other.entry.size }) object.held);
     turns = ap₂ (λ one two. merge_of one two (is same kept) (is same spent) object) it.there other.there;
     becomes = merges kept spent it other apart;
   }
 
   lowered : (name : K) (it : Holds same Write name object) (max : ℕ) → object.kind ≡ ReaderWriter max → TurnsBy same object (Downgrade name)
   lowered name it max kind = record {
-    answer = Done; line = give_back (max - 1) object.line; held = change (is same name) (λ e. record { name = tag Read name; size = 1 }) object.held;
+    answer = Done;
+    line = give_back (max - 1) object.line;
+    held = change (is same name) (λ e. record { name = tag Read name; size = 1 }) object.held;
     turns = ap₂ (λ k found. downgrade_of k found (is same name) (tag Read name) object) kind it.there;
     becomes = lowers name max kind it;
   }
@@ -117,10 +137,19 @@ module _ {K : Type 0} (same : K → K → Bool) (object : Object (Tag K)) where
   turns_by (Release n) allowed = record { answer = Done; line = give_back n object.line; held = object.held; turns = refl; becomes = comes n allowed.0 allowed.1 }
   turns_by (Reduce n) allowed = record { answer = Done; line = take_permits n object.line; held = object.held; turns = refl; becomes = goes n allowed.0 allowed.1 }
   turns_by (Drain n) allowed = record {
-    answer = Drained (drained n object.line); line = take_permits (drained n object.line) object.line; held = object.held; turns = refl; becomes = drains n allowed }
+    answer = Drained (drained n object.line);
+    line = take_permits (drained n object.line) object.line;
+    held = object.held;
+    turns = refl;
+    becomes = drains n allowed;
+  }
   turns_by (Forget permit) allowed = record {
-    answer = Done; line = object.line; held = without (is same permit) object.held; turns = refl;
-    becomes = subst (λ size. Becomes same object false 0 size None object.line (without (is same permit) object.held)) (sym (ap size_in allowed.there)) (forgets permit allowed) }
+    answer = Done;
+    line = object.line;
+    held = without (is same permit) object.held;
+    turns = refl;
+    becomes = subst (λ size. Becomes same object false 0 size None object.line (without (is same permit) object.held)) (sym (ap size_in allowed.there)) (forgets permit allowed);
+  }
   turns_by (Split permit made n) allowed = splits_by permit made n allowed.0 (nat_le n allowed.0.entry.size) refl
   turns_by (Merge kept spent) allowed = merged kept spent allowed.0 allowed.1 allowed.2
   turns_by (Downgrade writer) allowed = let lock = write_of object.kind allowed.fits.0 in lowered writer allowed lock.0 lock.1

@@ -1,6 +1,6 @@
 -- What can be done to an object, as data: what each rule makes of it, and what is tested before it is done.
 -- K is what a name is, and `same` says whether two names are one.
-use Rattle.std.specs.Prelude.{◌≡◌, ℕ, ◌-◌, Bool, true, false, if◌then◌else◌, ◌++◌, Option, Some, None, IsSome}
+use Rattle.std.specs.Prelude.{◌≡◌, ℕ, Bool, true, false, if◌then◌else◌, ◌++◌, Option, Some, None, IsSome}
 use Rattle.band_balance.specs.Line.{Entry, is_served, requests, drained, entry_named}
 use Rattle.band_balance.specs.Object.{Object, Turn, Mode, Permit, Read, Write, Kind, Tag, tag, is_of, size_of, ask, poll, try_for, drop, release, reduce, drain, status, forget, split, merge, downgrade, would_overflow, would_owe_too_much}
 

@@ -11,7 +11,7 @@ use Rattle.band_base.specs.declared.poll.PollError.{PollError}
 use Rattle.band_base.specs.declared.refusal.Refusal.{Refusal}
 use Rattle.band_base.specs.declared.refusal.Refusal.TheVariants as refusals
 use Rattle.band_balance.specs.Line.{Line, requests, total, rename, renamed_waiting, u64_max, is_served, take_permits, give_back, drained, overflows, owes_too_much, available}
-use Rattle.band_balance.specs.Object.{Object, Kind, Mode, Permit, Lock, Read, Write, Answer, Done, Ready, Pending, Nothing, Drained, Figures, Turn, size_of, tag, turn, hold, drop_of, split_of, would_overflow, would_owe_too_much}
+use Rattle.band_balance.specs.Object.{Object, Kind, Mode, Permit, Read, Write, Answer, Done, Ready, Pending, Nothing, Drained, Figures, Turn, size_of, tag, turn, hold, drop_of, split_of, would_overflow, would_owe_too_much}
 use Rattle.band_balance.specs.Rule.{Rule, Fits, act}
 use Rattle.band_balance.specs.Rule.{is as is_tag}
 use Rattle.band_balance.specs.Rule as rules

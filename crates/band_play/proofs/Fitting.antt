@@ -75,9 +75,12 @@ module _ (tags : ℕ → ℕ → Tag) (table : List ℕ → Option Thing) (kept 
       go (things.Request place request) object there named at sound is =
           let has = subst (HasSlotAt (tags place) place object.line name) is (at.slots name) refl in
           let seen = ap (λ s. s.request) (at.every name ∙ ap (shown place name) is ∙ shown_here place name (things.Request place request) refl) in
-          subst (λ o. FitsRequest o request) (sym there)
-          (subst IsJoined (sym has.joined) tt, has.of ∙ sym at.number, subst (λ stage. IsOwn stage request.size object.line) (sym has.joined) has.own,
-          subst (λ k. Fits k request.mode request.size) at.kind (all-found _ (is_tag bytes_eq name) (requests named.object.line) _ sound.each_request seen))
+          subst (λ o. FitsRequest o request) (sym there) (
+            subst IsJoined (sym has.joined) tt,
+            has.of ∙ sym at.number,
+            subst (λ stage. IsOwn stage request.size object.line) (sym has.joined) has.own,
+            subst (λ k. Fits k request.mode request.size) at.kind (all-found _ (is_tag bytes_eq name) (requests named.object.line) _ sound.each_request seen),
+          )
       go (things.Holding holding) object there named at sound is =
           let seen = ap (λ s. s.holding) (at.every name ∙ ap (shown holding.of name) is ∙ shown_here holding.of name (things.Holding holding) refl) in
           let whole = total-without (is_tag bytes_eq name) named.object.held _ seen in

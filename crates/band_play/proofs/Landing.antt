@@ -6,7 +6,7 @@ use Rattle.std.specs.Str.{bytes_eq}
 use Rattle.std.proofs.lemmas.Bool.{cond-true, cond-false, false≢true, le-leb}
 use Rattle.std.proofs.lemmas.Option.{none-some}
 use Rattle.band_balance.specs.Line.{Entry, Line, entry_of, requests, total, rename, renamed, entry_named, without, is_served, take_permits, give_back, join, poll_granted, poll_waiting, cancel}
-use Rattle.band_balance.specs.Object.{Object, ReaderWriter, Mode, Permit, Read, Answer, Done, Ready, Pending, tag, turn, hold, change, poll_of, drop_of, split_of, merge_of, downgrade_of}
+use Rattle.band_balance.specs.Object.{ReaderWriter, Mode, Permit, Read, Answer, Done, Ready, Pending, tag, turn, hold, change, poll_of, drop_of, split_of, merge_of, downgrade_of}
 use Rattle.band_balance.specs.Rule.{Rule, act}
 use Rattle.band_balance.specs.Rule.{is as is_tag}
 use Rattle.band_balance.specs.Rule as rules
@@ -41,9 +41,11 @@ once-change name to keeps (e ∷ es) once =
     (subst (λ n. AllByRecursion (λ (other : Entry Tag). bytes_eq n other.name.name ≡ false) es) (sym (keeps e h)) once.0, once.1))
     (λ h.
     let Apart : Entry Tag → Type 0 = λ other. bytes_eq e.name.name other.name.name ≡ false in
-    subst NamedOnce (sym (cond-false (bytes_eq name e.name.name) _ (e ∷ change (is_tag bytes_eq name) to es) h))
-    (all-change (is_tag bytes_eq name) to Apart Apart es (λ other apart means. ap (bytes_eq e.name.name) (keeps other means) ∙ apart) once.0
-    (all-without Apart (is_tag bytes_eq name) es once.0), once-change name to keeps es once.1))
+    subst NamedOnce (sym (cond-false (bytes_eq name e.name.name) _ (e ∷ change (is_tag bytes_eq name) to es) h)) (
+      all-change (is_tag bytes_eq name) to Apart Apart es (λ other apart means. ap (bytes_eq e.name.name) (keeps other means) ∙ apart) once.0
+          (all-without Apart (is_tag bytes_eq name) es once.0),
+      once-change name to keeps es once.1,
+    ))
 
 seen_as : (s t : Seen) → s.named ≡ t.named → s.request ≡ t.request → s.holding ≡ t.holding → s ≡ t
 seen_as s t e f g =

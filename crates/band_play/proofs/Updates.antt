@@ -13,7 +13,6 @@ use Rattle.band_play.specs.Apart.{at, AreApart, Sets}
 use Rattle.band_play.specs.Thing.{Thing}
 use Rattle.band_play.specs.Thing as things
 use Rattle.band_play.specs.Token.{TokenState, thing_of}
-use Rattle.band_play.specs.Token as tokens
 use Rattle.band_play.specs.declared.names.Names.{Names}
 use Rattle.band_play.specs.Names.{thing_from, table_of, thing_at, Updated, is_object}
 use Rattle.band_balance.proofs.Held.{by_bool}

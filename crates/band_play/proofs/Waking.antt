@@ -60,14 +60,14 @@ module _ (old new : Table) (object object' : ObjectState) (result : Option Waker
 
   pub still_stands : StandsFor new state
   still_stands = record {
-        tags = stands.tags;
-        under = rw (names, items) (record {
-          order = stands.under.order;
-          size = length-set old.objects.items old.last object' ∙ stands.under.size;
-          each = each_after;
-          there = λ name thing is. subst (λ n. place_at thing < n) (sym (length-set old.objects.items old.last object')) (stands.under.there name thing is);
-        });
-        others = λ place kept apart at.
-            let differs : place ≡ old.last → ⊥ = λ k. apart (k ∙ sym last) in
-            stands.others place kept differs (sym (at_set_other old.objects.items old.last place object' differs) ∙ ap (λ (objects : List ObjectState). slice_get objects place) (sym items) ∙ at);
-      }
+    tags = stands.tags;
+    under = rw (names, items) (record {
+      order = stands.under.order;
+      size = length-set old.objects.items old.last object' ∙ stands.under.size;
+      each = each_after;
+      there = λ name thing is. subst (λ n. place_at thing < n) (sym (length-set old.objects.items old.last object')) (stands.under.there name thing is);
+    });
+    others = λ place kept apart at.
+        let differs : place ≡ old.last → ⊥ = λ k. apart (k ∙ sym last) in
+        stands.others place kept differs (sym (at_set_other old.objects.items old.last place object' differs) ∙ ap (λ (objects : List ObjectState). slice_get objects place) (sym items) ∙ at);
+  }

@@ -260,10 +260,11 @@ planned state differ sound (calls.Merge kept spent) =
     let known = (stands state differ sound call kept is).0 in
     let known_too = (stands state differ sound call spent also).0 in
     let one_is : other ≡ one = sym (same_named one other known.0 known_too.0 (not-false _ together)) in
-    acts state differ sound call (rules.Merge kept spent) known
-    (holds state differ sound call Permit kept one entry is same,
-    subst (λ (of : Named). Holds bytes_eq Permit spent of.object) one_is (holds state differ sound call Permit spent other more also same_too),
-    apart) refl tt))))))
+    acts state differ sound call (rules.Merge kept spent) known (
+      holds state differ sound call Permit kept one entry is same,
+      subst (λ (of : Named). Holds bytes_eq Permit spent of.object) one_is (holds state differ sound call Permit spent other more also same_too),
+      apart,
+    ) refl tt))))))
 planned state differ sound (calls.Downgrade name) =
     let call = calls.Downgrade name in
     for_lender (Good state differ sound call) (refusing state differ sound call) Write (standing name state) _ (λ of entry is same.

@@ -1,6 +1,6 @@
 -- Permits are kept: what an object was made with and what was released to it is what is free, granted and held of it, and what
 -- was reduced, drained and forgotten.
-use Rattle.std.specs.Prelude.{ℕ, ◌+◌, if◌then◌else◌, List, [], ◌∷◌, Option, Some, None, ℤ, pos, ◌+ℤ◌}
+use Rattle.std.specs.Prelude.{ℕ, if◌then◌else◌, List, [], ◌∷◌, Option, Some, None, ℤ, pos, ◌+ℤ◌}
 use Rattle.std.specs.Str.{bytes_eq}
 use Rattle.band_balance.specs.Laws.{permits}
 use Rattle.band_balance.specs.Object.{Object}
