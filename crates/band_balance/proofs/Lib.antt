@@ -2,3 +2,10 @@ pub mod Rename
 pub mod Settle
 pub mod Requests
 pub mod Distinct
+pub mod Turns
+pub mod Accounts
+pub mod Held
+pub mod Shares
+pub mod Orderly
+pub mod Fronts
+pub mod Rules

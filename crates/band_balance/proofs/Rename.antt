@@ -2,7 +2,7 @@
 use Rattle.std.proofs.Common.{◌≡◌, ℕ, ◌+◌, fold, Bool, true, false, cond, List, [], ◌∷◌, ◌++◌, map, ℤ, pos, ◌-ℤ◌, int_le, Option, Some, None, option_map, refl, ap, ap₂, sym, ◌∙◌, ◌==◌, ◌||◌, ◌&&◌}
 use Rattle.std.specs.List.{AllByRecursion}
 use Rattle.std.proofs.lemmas.List.{map-append}
-use Rattle.band_balance.specs.Line.{Entry, Waiting, Line, entry_of, requests, total, nobody_waits, settle_from, settle, is_served, take_permits, add_permits, give_back, join, available, drained, entry_named, without, without_waiting, leave_waker, poll_granted, poll_waiting, withdraw, cancel, renamed, renamed_waiting, rename}
+use Rattle.band_balance.specs.Line.{Entry, Waiting, Line, entry_of, requests, total, nobody_waits, settle_from, settle, is_served, add_permits, give_back, join, available, drained, entry_named, without, without_waiting, leave_waker, poll_granted, poll_waiting, withdraw, cancel, renamed, renamed_waiting, rename}
 
 -- a function goes into both branches of an `if`
 pub through_if : {A B : Type 0} (h : A → B) (b b' : Bool) (x y : A) (x' y' : B) → b' ≡ b → x' ≡ h x → y' ≡ h y → cond b' x' y' ≡ h (cond b x y)
@@ -34,12 +34,6 @@ module _ {M N : Type 0} (f : M → N) where
 
   pub drained-rename : (n : ℕ) (line : Line M) → drained n (rename f line) ≡ drained n line
   drained-rename n line = rw (nobody_waits-rename line.waiting) refl
-
-  pub take_permits-rename : (n : ℕ) (line : Line M) → take_permits n (rename f line) ≡ rename f (take_permits n line)
-  take_permits-rename n line = refl
-
-  pub add_permits-rename : (n : ℕ) (line : Line M) → add_permits n (rename f line) ≡ rename f (add_permits n line)
-  add_permits-rename n line = refl
 
   pub give_back-rename : (n : ℕ) (line : Line M) → give_back n (rename f line) ≡ rename f (give_back n line)
   give_back-rename n line = settle-rename (add_permits n line)
@@ -141,33 +135,6 @@ module _ {M N : Type 0} (f g : M → N) where
       ap₂ (λ (w : List (Waiting N)) (granted : List (Entry N)). record { free = line.free; waiting = w; granted = granted; wakes = line.wakes })
       (renamed_waiting_agree line.waiting (all_of_second _ line.granted (map entry_of line.waiting) agree))
       (renamed_agree line.granted (all_of_first _ line.granted (map entry_of line.waiting) agree))
-
--- names renamed twice, and by the identity
-pub renamed-renamed : {L M N : Type 0} (f : M → N) (g : L → M) (entries : List (Entry L)) → map (renamed f) (map (renamed g) entries) ≡ map (renamed (λ n. f (g n))) entries
-renamed-renamed f g [] = refl
-renamed-renamed f g (e ∷ es) = ap (λ rest. renamed (λ n. f (g n)) e ∷ rest) (renamed-renamed f g es)
-
-pub renamed_waiting-renamed_waiting : {L M N : Type 0} (f : M → N) (g : L → M) (waiting : List (Waiting L)) → map (renamed_waiting f) (map (renamed_waiting g) waiting) ≡ map (renamed_waiting (λ n. f (g n))) waiting
-renamed_waiting-renamed_waiting f g [] = refl
-renamed_waiting-renamed_waiting f g (w ∷ ws) = ap (λ rest. renamed_waiting (λ n. f (g n)) w ∷ rest) (renamed_waiting-renamed_waiting f g ws)
-
-pub rename-rename : {L M N : Type 0} (f : M → N) (g : L → M) (line : Line L) → rename f (rename g line) ≡ rename (λ n. f (g n)) line
-rename-rename {L} {M} {N} f g line =
-    ap₂ (λ (w : List (Waiting N)) (granted : List (Entry N)). record { free = line.free; waiting = w; granted = granted; wakes = line.wakes })
-    (renamed_waiting-renamed_waiting f g line.waiting) (renamed-renamed f g line.granted)
-
-pub renamed-same : {M : Type 0} (entries : List (Entry M)) → map (renamed (λ (n : M). n)) entries ≡ entries
-renamed-same [] = refl
-renamed-same (e ∷ es) = ap (λ rest. e ∷ rest) (renamed-same es)
-
-pub renamed_waiting-same : {M : Type 0} (waiting : List (Waiting M)) → map (renamed_waiting (λ (n : M). n)) waiting ≡ waiting
-renamed_waiting-same [] = refl
-renamed_waiting-same (w ∷ ws) = ap (λ rest. w ∷ rest) (renamed_waiting-same ws)
-
-pub rename-same : {M : Type 0} (line : Line M) → rename (λ (n : M). n) line ≡ line
-rename-same {M} line =
-    ap₂ (λ (w : List (Waiting M)) (granted : List (Entry M)). record { free = line.free; waiting = w; granted = granted; wakes = line.wakes })
-    (renamed_waiting-same line.waiting) (renamed-same line.granted)
 
 pub total-renamed : {M N : Type 0} (f : M → N) (entries : List (Entry M)) → total (map (renamed f) entries) ≡ total entries
 total-renamed {M} {N} f entries = go 0 entries

@@ -1,12 +1,12 @@
 -- Who is in the line after each step, and who is found there.
-use Rattle.std.proofs.Common.{◌≡◌, ℕ, ◌+◌, ◌-◌, ◌≤◌, Bool, true, false, cond, List, [], ◌∷◌, ◌++◌, map, Option, Some, None, count_by, refl, ap, ap₂, sym, ◌∙◌, arith, append_assoc, zero-add, subst}
+use Rattle.std.proofs.Common.{◌≡◌, ℕ, ◌+◌, Bool, true, false, cond, List, [], ◌∷◌, ◌++◌, map, Option, Some, None, count_by, refl, ap, ap₂, sym, ◌∙◌, arith, append_assoc, subst}
 use Rattle.std.specs.List.{AllByRecursion}
 use Rattle.std.specs.Option.{option_or}
 use Rattle.std.proofs.lemmas.List.{map-append}
 use Rattle.std.proofs.lemmas.List.Folds.{find-append}
 use Rattle.std.proofs.lemmas.List.Sums.{sum_by-append, sum_by-cons}
 use Rattle.std.proofs.lemmas.Bool.{cond_both, true≢false}
-use Rattle.band_balance.specs.Line.{Entry, Waiting, Line, entry_of, requests, settle, take_permits, add_permits, give_back, join, entry_named, without, without_waiting, leave_waker, poll_granted, poll_waiting, withdraw, cancel}
+use Rattle.band_balance.specs.Line.{Entry, Waiting, Line, entry_of, requests, add_permits, give_back, join, entry_named, without, without_waiting, leave_waker, poll_granted, poll_waiting, withdraw, cancel}
 use Rattle.band_balance.proofs.Rename.{all_of_first, all_of_second, all_of_both}
 use Rattle.band_balance.proofs.Settle.{requests-settle}
 
@@ -14,12 +14,6 @@ module _ {N : Type 0} where
   -- how many entries are meant
   abbrev pub count_named : (N → Bool) → List (Entry N) → ℕ
   count_named is entries = count_by (λ (e : Entry N). is e.name) entries
-
-  pub requests-take_permits : (n : ℕ) (line : Line N) → requests (take_permits n line) ≡ requests line
-  requests-take_permits n line = refl
-
-  pub requests-add_permits : (n : ℕ) (line : Line N) → requests (add_permits n line) ≡ requests line
-  requests-add_permits n line = refl
 
   pub requests-give_back : (n : ℕ) (line : Line N) → requests (give_back n line) ≡ requests line
   requests-give_back n line = requests-settle (add_permits n line)
@@ -109,12 +103,6 @@ module _ {N : Type 0} where
   pub entry_named-poll_waiting : (is other : N → Bool) (waker : ℕ) (line : Line N) → entry_named other (requests (poll_waiting is waker line)) ≡ entry_named other (requests line)
   entry_named-poll_waiting is other waker line = ap (λ (es : List (Entry N)). entry_named other es) (requests-poll_waiting is waker line)
 
-  pub entry_named-settle : (other : N → Bool) (line : Line N) → entry_named other (requests (settle line)) ≡ entry_named other (requests line)
-  entry_named-settle other line = ap (λ (es : List (Entry N)). entry_named other es) (requests-settle line)
-
-  pub entry_named-give_back : (other : N → Bool) (n : ℕ) (line : Line N) → entry_named other (requests (give_back n line)) ≡ entry_named other (requests line)
-  entry_named-give_back other n line = entry_named-settle other (add_permits n line)
-
   pub entry_named-append : (other : N → Bool) (xs ys : List (Entry N)) → entry_named other (xs ++ ys) ≡ option_or (entry_named other xs) (entry_named other ys)
   entry_named-append other xs ys = find-append (λ (e : Entry N). other e.name) xs ys
 
@@ -122,20 +110,29 @@ module _ {N : Type 0} where
   option_or_none None = refl
   option_or_none (Some e) = refl
 
+  -- where one more comes last
+  pub entry_named-push_other : (other : N → Bool) (entries : List (Entry N)) (new : Entry N) → other new.name ≡ false → entry_named other (entries ++ new ∷ []) ≡ entry_named other entries
+  entry_named-push_other other entries new h =
+      entry_named-append other entries (new ∷ [])
+      ∙ ap (λ (b : Bool). option_or (entry_named other entries) (cond b (Some new) None)) h
+      ∙ option_or_none (entry_named other entries)
+
+  pub entry_named-push_itself : (is : N → Bool) (entries : List (Entry N)) (new : Entry N) → is new.name ≡ true → entry_named is entries ≡ None → entry_named is (entries ++ new ∷ []) ≡ Some new
+  entry_named-push_itself is entries new h k =
+      entry_named-append is entries (new ∷ [])
+      ∙ ap₂ (λ (found : Option (Entry N)) (b : Bool). option_or found (cond b (Some new) None)) k h
+
   pub entry_named-join_other : (other : N → Bool) (name : N) (size waker : ℕ) (line : Line N) → other name ≡ false →
       entry_named other (requests (join name size waker line)) ≡ entry_named other (requests line)
   entry_named-join_other other name size waker line h =
       ap (λ (es : List (Entry N)). entry_named other es) (requests-join name size waker line)
-      ∙ entry_named-append other (requests line) (record { name = name; size = size } ∷ [])
-      ∙ ap (λ (b : Bool). option_or (entry_named other (requests line)) (cond b (Some (record { name = name; size = size })) None)) h
-      ∙ option_or_none (entry_named other (requests line))
+      ∙ entry_named-push_other other (requests line) (record { name = name; size = size }) h
 
   pub entry_named-join_itself : (is : N → Bool) (name : N) (size waker : ℕ) (line : Line N) → is name ≡ true → entry_named is (requests line) ≡ None →
       entry_named is (requests (join name size waker line)) ≡ Some (record { name = name; size = size })
   entry_named-join_itself is name size waker line h k =
       ap (λ (es : List (Entry N)). entry_named is es) (requests-join name size waker line)
-      ∙ entry_named-append is (requests line) (record { name = name; size = size } ∷ [])
-      ∙ ap₂ (λ (found : Option (Entry N)) (b : Bool). option_or found (cond b (Some (record { name = name; size = size })) None)) k h
+      ∙ entry_named-push_itself is (requests line) (record { name = name; size = size }) h k
 
   -- Counts of the entries that are meant.
   pub count_named-cons : (is : N → Bool) (x : Entry N) (xs : List (Entry N)) → count_named is (x ∷ xs) ≡ cond (is x.name) 1 0 + count_named is xs
@@ -161,79 +158,6 @@ module _ {N : Type 0} where
       go true e k = cc
       go false e k = let z : count_named is xs ≡ 0 = k e in omega arith
 
-  -- one fewer of those that are meant, and no more of any
-  pub count_named-without_itself : (is : N → Bool) (entries : List (Entry N)) → count_named is (without is entries) ≡ count_named is entries - 1
-  count_named-without_itself is [] = refl
-  count_named-without_itself is (x ∷ xs) = go (is x.name) refl (count_named-without_itself is xs)
-    where
-      go : (b : Bool) → is x.name ≡ b → count_named is (without is xs) ≡ count_named is xs - 1 → count_named is (cond b xs (x ∷ without is xs)) ≡ count_named is (x ∷ xs) - 1
-      go true e k =
-          let p : count_named is (x ∷ xs) ≡ cond true 1 0 + count_named is xs = count_named-cons is x xs ∙ ap (λ (b : Bool). cond b 1 0 + count_named is xs) e in
-          omega arith
-      go false e k =
-          let p : count_named is (x ∷ xs) ≡ cond false 1 0 + count_named is xs = count_named-cons is x xs ∙ ap (λ (b : Bool). cond b 1 0 + count_named is xs) e in
-          let q : count_named is (x ∷ without is xs) ≡ cond false 1 0 + count_named is (without is xs) =
-          count_named-cons is x (without is xs) ∙ ap (λ (b : Bool). cond b 1 0 + count_named is (without is xs)) e in
-          omega arith
-
-  pub count_named-without_le : (is other : N → Bool) (entries : List (Entry N)) → count_named other (without is entries) ≤ count_named other entries
-  count_named-without_le is other [] = omega arith
-  count_named-without_le is other (x ∷ xs) = go (is x.name) (count_named-without_le is other xs)
-    where
-      go : (b : Bool) → count_named other (without is xs) ≤ count_named other xs → count_named other (cond b xs (x ∷ without is xs)) ≤ count_named other (x ∷ xs)
-      go true k = let p = count_named-cons other x xs in omega arith
-      go false k = let p = count_named-cons other x xs in let q = count_named-cons other x (without is xs) in omega arith
-
-  pub count_named-join : (is : N → Bool) (name : N) (size waker : ℕ) (line : Line N) → count_named is (requests (join name size waker line)) ≡ count_named is (requests line) + cond (is name) 1 0
-  count_named-join is name size waker line =
-      ap (λ (es : List (Entry N)). count_named is es) (requests-join name size waker line)
-      ∙ count_named-append is (requests line) (record { name = name; size = size } ∷ [])
-      ∙ ap (λ (n : ℕ). count_named is (requests line) + n) (zero-add (cond (is name) 1 0))
-
-  pub count_named-cancel_le : (is other : N → Bool) (line : Line N) → count_named other (requests (cancel is line)) ≤ count_named other (requests line)
-  count_named-cancel_le is other line = rw (requests-cancel is line) (count_named-without_le is other (requests line))
-
-  pub count_named-poll_granted_le : (is other : N → Bool) (line : Line N) → count_named other (requests (poll_granted is line)) ≤ count_named other (requests line)
-  count_named-poll_granted_le is other line =
-      let p = count_named-append other (without is line.granted) (map entry_of line.waiting) in
-      let q = count_named-append other line.granted (map entry_of line.waiting) in
-      let r = count_named-without_le is other line.granted in
-      omega arith
-
-  pub count_named-poll_waiting : (is other : N → Bool) (waker : ℕ) (line : Line N) → count_named other (requests (poll_waiting is waker line)) ≡ count_named other (requests line)
-  count_named-poll_waiting is other waker line = ap (λ (es : List (Entry N)). count_named other es) (requests-poll_waiting is waker line)
-
-  pub count_named-settle : (is : N → Bool) (line : Line N) → count_named is (requests (settle line)) ≡ count_named is (requests line)
-  count_named-settle is line = ap (λ (es : List (Entry N)). count_named is es) (requests-settle line)
-
-  -- a request that stands once is gone
-  pub entry_named-cancel_itself : (is : N → Bool) (line : Line N) → count_named is (requests line) ≤ 1 → entry_named is (requests (cancel is line)) ≡ None
-  entry_named-cancel_itself is line once =
-      entry_named-none is (requests (cancel is line))
-      (ap (λ (es : List (Entry N)). count_named is es) (requests-cancel is line) ∙ count_named-without_itself is (requests line) ∙ gone (count_named is (requests line)) once)
-    where
-      gone : (n : ℕ) → n ≤ 1 → n - 1 ≡ 0
-      gone n h = omega arith
-
-  pub entry_named-poll_granted_itself : (is : N → Bool) (line : Line N) (found : Entry N) → entry_named is line.granted ≡ Some found → count_named is (requests line) ≤ 1 →
-      entry_named is (requests (poll_granted is line)) ≡ None
-  entry_named-poll_granted_itself is line found h once =
-      entry_named-none is (requests (poll_granted is line))
-      (ap (λ (es : List (Entry N)). count_named is es) (requests-poll_granted is line found h) ∙ count_named-without_itself is (requests line) ∙ gone (count_named is (requests line)) once)
-    where
-      gone : (n : ℕ) → n ≤ 1 → n - 1 ≡ 0
-      gone n h = omega arith
-
-  -- who is in the line and was not granted waits
-  pub entry_named-requests : (is : N → Bool) (line : Line N) → entry_named is (requests line) ≡ option_or (entry_named is line.granted) (entry_named is (map entry_of line.waiting))
-  entry_named-requests is line = entry_named-append is line.granted (map entry_of line.waiting)
-
-  pub entry_named-granted : (is : N → Bool) (line : Line N) (found : Entry N) → entry_named is line.granted ≡ Some found → entry_named is (requests line) ≡ Some found
-  entry_named-granted is line found h = entry_named-requests is line ∙ ap (λ (o : Option (Entry N)). option_or o (entry_named is (map entry_of line.waiting))) h
-
-  pub entry_named-waiting : (is : N → Bool) (line : Line N) → entry_named is line.granted ≡ None → entry_named is (requests line) ≡ entry_named is (map entry_of line.waiting)
-  entry_named-waiting is line h = entry_named-requests is line ∙ ap (λ (o : Option (Entry N)). option_or o (entry_named is (map entry_of line.waiting))) h
-
   -- What holds of each request goes on holding of those that stay.
   pub all-without : (P : Entry N → Type 0) (is : N → Bool) (entries : List (Entry N)) → AllByRecursion P entries → AllByRecursion P (without is entries)
   all-without P is [] h = h
@@ -242,9 +166,6 @@ module _ {N : Type 0} where
       go : (b : Bool) → AllByRecursion P (without is xs) → AllByRecursion P (cond b xs (x ∷ without is xs))
       go true k = h.1
       go false k = (h.0, k)
-
-  pub all-requests-settle : (P : Entry N → Type 0) (line : Line N) → AllByRecursion P (requests line) → AllByRecursion P (requests (settle line))
-  all-requests-settle P line h = rw (requests-settle line) h
 
   pub all-requests-give_back : (P : Entry N → Type 0) (n : ℕ) (line : Line N) → AllByRecursion P (requests line) → AllByRecursion P (requests (give_back n line))
   all-requests-give_back P n line h = rw (requests-give_back n line) h

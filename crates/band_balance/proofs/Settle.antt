@@ -2,8 +2,6 @@
 use Rattle.std.proofs.Common.{◌≡◌, ℕ, ◌==◌, ◌&&◌, Option, Some, None, ◌+◌, Bool, true, false, cond, List, [], ◌∷◌, ◌++◌, map, ℤ, pos, ◌+ℤ◌, ◌-ℤ◌, ◌<ℤ◌, int_le, refl, ap, sym, ◌∙◌, arith, append_assoc, append-nil}
 use Rattle.std.proofs.lemmas.Int.{ints}
 use Rattle.std.proofs.lemmas.Bool.{cond_both, or_parts}
-use Rattle.std.proofs.lemmas.List.Folds.{find-append}
-use Rattle.std.specs.Option.{option_or}
 use Rattle.std.proofs.lemmas.List.Sums.{sum_by-append, sum_by-cons}
 use Rattle.band_balance.specs.Line.{Entry, Waiting, Line, entry_of, requests, total, settle_from, settle, give_back, take_permits, add_permits, entry_named, without, cancel, withdraw, is_served, nobody_waits, join, poll_granted, poll_waiting, leave_waker}
 use Rattle.band_balance.specs.Settled.{HeadWaits}
@@ -100,33 +98,6 @@ module _ {N : Type 0} where
   pub wakes-settle : (line : Line N) → (settle line).wakes ≡ line.wakes ++ wakers (passed line.free line.waiting)
   wakes-settle line = ap (λ (l : Line N). l.wakes) (settle_is line)
 
-  pub free-settle : (line : Line N) → (settle line).free ≡ line.free -ℤ pos (total (map entry_of (passed line.free line.waiting)))
-  free-settle line = ap (λ (l : Line N). l.free) (settle_is line)
-
-  -- the wakers that were there before stay in front, and change nothing else
-  abbrev pub after_wakes : List ℕ → Line N → Line N
-  after_wakes wakes line = record line { wakes = wakes ++ line.wakes }
-
-  pub settle_from-append_wakes : (free : ℤ) (waiting : List (Waiting N)) (granted : List (Entry N)) (wakes more : List ℕ) →
-      settle_from free waiting granted (wakes ++ more) ≡ after_wakes wakes (settle_from free waiting granted more)
-  settle_from-append_wakes free [] granted wakes more = refl
-  settle_from-append_wakes free (first ∷ rest) granted wakes more = go (int_le (pos first.size) free) (settle_from-append_wakes (free -ℤ pos first.size) rest (granted ++ entry_of first ∷ []) wakes (more ++ first.waker ∷ []))
-    where
-      go : (b : Bool) →
-          settle_from (free -ℤ pos first.size) rest (granted ++ entry_of first ∷ []) (wakes ++ (more ++ first.waker ∷ []))
-          ≡ after_wakes wakes (settle_from (free -ℤ pos first.size) rest (granted ++ entry_of first ∷ []) (more ++ first.waker ∷ [])) →
-          cond b (settle_from (free -ℤ pos first.size) rest (granted ++ entry_of first ∷ []) ((wakes ++ more) ++ first.waker ∷ []))
-          (record { free = free; waiting = first ∷ rest; granted = granted; wakes = wakes ++ more })
-          ≡ after_wakes wakes (cond b (settle_from (free -ℤ pos first.size) rest (granted ++ entry_of first ∷ []) (more ++ first.waker ∷ []))
-          (record { free = free; waiting = first ∷ rest; granted = granted; wakes = more }))
-      go true h = ap (λ ws. settle_from (free -ℤ pos first.size) rest (granted ++ entry_of first ∷ []) ws) (append_assoc wakes more (first.waker ∷ [])) ∙ h
-      go false h = refl
-
-  pub settle_from-wakes : (free : ℤ) (waiting : List (Waiting N)) (granted : List (Entry N)) (wakes : List ℕ) →
-      settle_from free waiting granted wakes ≡ after_wakes wakes (settle_from free waiting granted [])
-  settle_from-wakes free waiting granted wakes =
-      ap (λ ws. settle_from free waiting granted ws) (sym (append-nil wakes)) ∙ settle_from-append_wakes free waiting granted wakes []
-
   -- who is in the line stays the same, in order
   pub requests-settle_from : (free : ℤ) (waiting : List (Waiting N)) (granted : List (Entry N)) (wakes : List ℕ) →
       requests (settle_from free waiting granted wakes) ≡ granted ++ map entry_of waiting
@@ -166,17 +137,6 @@ module _ {N : Type 0} where
 
   pub HeadWaits-settle : (line : Line N) → HeadWaits (settle line).free (settle line).waiting
   HeadWaits-settle line = HeadWaits-settle_from line.free line.waiting line.granted line.wakes
-
-  -- a line whose head waits has settled
-  pub settle_settled : (line : Line N) → HeadWaits line.free line.waiting → settle line ≡ line
-  settle_settled line h = go line.waiting h
-    where
-      go : (waiting : List (Waiting N)) → HeadWaits line.free waiting → settle_from line.free waiting line.granted line.wakes ≡ record { free = line.free; waiting = waiting; granted = line.granted; wakes = line.wakes }
-      go [] k = refl
-      go (first ∷ rest) k = rw (le_false_from_lt first.size line.free k) refl
-
-  pub settle-settle : (line : Line N) → settle (settle line) ≡ settle line
-  settle-settle line = settle_settled (settle line) (HeadWaits-settle line)
 
   pub free-total-give_back : (n : ℕ) (line : Line N) →
       (give_back n line).free +ℤ pos (total (give_back n line).granted) ≡ line.free +ℤ pos n +ℤ pos (total line.granted)
@@ -251,27 +211,3 @@ module _ {N : Type 0} where
           HeadWaits line.free (waiting ++ record { name = name; size = size; waker = waker } ∷ [])
       go [] k l = lt_from_le_false size line.free l
       go (first ∷ rest) k l = k
-
-  -- one that was granted stays granted until it is polled or dropped
-  pub granted_stays-settle : (is : N → Bool) (line : Line N) (found : Entry N) → entry_named is line.granted ≡ Some found → entry_named is (settle line).granted ≡ Some found
-  granted_stays-settle is line found h =
-      ap (λ (es : List (Entry N)). entry_named is es) (granted-settle line)
-      ∙ find-append (λ (e : Entry N). is e.name) line.granted (map entry_of (passed line.free line.waiting))
-      ∙ ap (λ (o : Option (Entry N)). option_or o (entry_named is (map entry_of (passed line.free line.waiting)))) h
-
-  pub granted_stays-give_back : (is : N → Bool) (n : ℕ) (line : Line N) (found : Entry N) → entry_named is line.granted ≡ Some found → entry_named is (give_back n line).granted ≡ Some found
-  granted_stays-give_back is n line found h = granted_stays-settle is (add_permits n line) found h
-
-  -- The wakers of a line stay in front of those that a step adds, and change nothing else.
-  pub settle-wakes : (line : Line N) → settle line ≡ after_wakes line.wakes (settle (record line { wakes = [] }))
-  settle-wakes line = settle_from-wakes line.free line.waiting line.granted line.wakes
-
-  pub give_back-wakes : (n : ℕ) (line : Line N) → give_back n line ≡ after_wakes line.wakes (give_back n (record line { wakes = [] }))
-  give_back-wakes n line = settle-wakes (add_permits n line)
-
-  pub cancel-wakes : (is : N → Bool) (line : Line N) → cancel is line ≡ after_wakes line.wakes (cancel is (record line { wakes = [] }))
-  cancel-wakes is line = go (entry_named is line.granted)
-    where
-      go : (found : Option (Entry N)) → settle (withdraw found is line) ≡ after_wakes line.wakes (settle (withdraw found is (record line { wakes = [] })))
-      go (Some entry) = settle-wakes (withdraw (Some entry) is line)
-      go None = settle-wakes (withdraw None is line)

@@ -1,4 +1,5 @@
 pub mod Line
 pub mod Settled
 pub mod Object
-pub mod Rows
+pub mod Rule
+pub mod Laws

@@ -1,5 +1,5 @@
 -- An object: its kind, its line and what is held of it. Each call answers, wakes some wakers in order, and leaves the object.
-use Rattle.std.specs.Prelude.{ℕ, ◌+◌, ◌-◌, ◌^◌, Bool, List, [], ◌∷◌, ◌++◌, length, ℤ, pos, neg_ℤ, ◌+ℤ◌, ◌-ℤ◌, int_lt, nat_le, if◌then◌else◌, Option, Some, None}
+use Rattle.std.specs.Prelude.{ℕ, ◌+◌, ◌-◌, Bool, true, false, List, [], ◌∷◌, ◌++◌, length, ℤ, nat_le, if◌then◌else◌, Option, Some, None}
 use Rattle.band_balance.specs.Line.{Entry, Line, open_line, total, is_served, take_permits, give_back, join, available, drained, overflows, owes_too_much, entry_named, without, poll_granted, poll_waiting, cancel}
 
 pub data Kind : Type 0 where
@@ -35,10 +35,26 @@ pub record Turn (N : Type 0) : Type 0 where
   pub woken : List ℕ
   pub object : Object N
 
+-- this is asked of objects of this kind
+abbrev pub is_of : Kind → Mode → Bool
+is_of Semaphore Permit = true
+is_of Mutex Lock = true
+is_of (ReaderWriter max) Read = true
+is_of (ReaderWriter max) Write = true
+is_of kind mode = false
+
 -- what a request of a mode asks for, where it doesn't say
 abbrev pub size_of : Kind → Mode → ℕ
 size_of (ReaderWriter max) Write = max
 size_of kind mode = 1
+
+-- what names an entry, where names are of a type K: a name, and what it asks for or holds
+pub record Tag (K : Type 0) : Type 0 where
+  pub name : K
+  pub mode : Mode
+
+abbrev pub tag : {K : Type 0} → Mode → K → Tag K
+tag mode name = record { name = name; mode = mode }
 
 module _ {N : Type 0} where
   abbrev pub new_semaphore : ℕ → Object N
@@ -113,17 +129,16 @@ module _ {N : Type 0} where
   abbrev pub forget : (N → Bool) → Object N → Turn N
   forget is object = turn Done (record object { held = without is object.held })
 
-  -- the first that is meant has this size from now on
-  abbrev pub resize : (N → Bool) → ℕ → List (Entry N) → List (Entry N)
-  resize is size [] = []
-  resize is size (entry ∷ rest) =
-      if is entry.name then record entry { size = size } ∷ rest else entry ∷ resize is size rest
+  -- the first that is meant becomes another
+  abbrev pub change : (N → Bool) → (Entry N → Entry N) → List (Entry N) → List (Entry N)
+  change is to [] = []
+  change is to (entry ∷ rest) = if is entry.name then to entry ∷ rest else entry ∷ change is to rest
 
   -- Split: n go to a new permit. More than there are: nothing changes.
   abbrev pub split_of : Option (Entry N) → (N → Bool) → N → ℕ → Object N → Turn N
   split_of (Some entry) is made n object =
       if nat_le n entry.size
-      then turn Done (record object { held = hold made n (resize is (entry.size - n) object.held) })
+      then turn Done (record object { held = hold made n (change is (λ e. record e { size = entry.size - n }) object.held) })
       else turn Nothing object
   split_of None is made n object = turn Nothing object
 
@@ -133,7 +148,7 @@ module _ {N : Type 0} where
   -- Merge: the second ends, and the first has its permits too.
   abbrev pub merge_of : Option (Entry N) → Option (Entry N) → (N → Bool) → (N → Bool) → Object N → Turn N
   merge_of (Some kept) (Some spent) is_kept is_spent object =
-      turn Done (record object { held = without is_spent (resize is_kept (kept.size + spent.size) object.held) })
+      turn Done (record object { held = without is_spent (change is_kept (λ e. record e { size = kept.size + spent.size }) object.held) })
   merge_of None spent is_kept is_spent object = turn Nothing object
   merge_of (Some kept) None is_kept is_spent object = turn Nothing object
 
@@ -141,16 +156,10 @@ module _ {N : Type 0} where
   merge is_kept is_spent object =
       merge_of (entry_named is_kept object.held) (entry_named is_spent object.held) is_kept is_spent object
 
-  -- the first that is meant has this name and size from now on
-  abbrev pub replace : (N → Bool) → N → ℕ → List (Entry N) → List (Entry N)
-  replace is name size [] = []
-  replace is name size (entry ∷ rest) =
-      if is entry.name then record { name = name; size = size } ∷ rest else entry ∷ replace is name size rest
-
   -- Downgrade: what is held for writing is held for reading from now on, of size 1, and the rest of all readers is given back.
   abbrev pub downgrade_of : Kind → Option (Entry N) → (N → Bool) → N → Object N → Turn N
   downgrade_of (ReaderWriter max) (Some writer) is reader object =
-      turn Done (record object { line = give_back (max - 1) object.line; held = replace is reader 1 object.held })
+      turn Done (record object { line = give_back (max - 1) object.line; held = change is (λ e. record { name = reader; size = 1 }) object.held })
   downgrade_of (ReaderWriter max) None is reader object = turn Nothing object
   downgrade_of Semaphore held is reader object = turn Nothing object
   downgrade_of Mutex held is reader object = turn Nothing object

@@ -1,10 +1,10 @@
-//! The definitions that every contract above cites: a line with its signed balance, the object that it stands in,
-//! and what each call makes of them. They stand in `specs/`; there is no code here but one law.
+//! The definitions that every contract above cites: a line with its signed balance, the object that it stands in, and what
+//! can be done to it, as data. They stand in `specs/`. There is no code here but laws: functions with an empty body.
 #![tactic(auto)]
 
-ghost use Rattle.band_balance.specs.Rows.{WorkedRows};
+mod laws;
 
-/// Worked scripts, each with what its calls answer and whom they wake.
-pub fn worked_rows()
-    ensures { WorkedRows }
-{}
+pub use laws::{
+    only_giving_back_wakes_anybody, permits_add_up, rules_grant_a_front, rules_keep_bounds,
+    rules_keep_order, rules_keep_shares, rules_wake_the_granted, who_writes_is_alone,
+};

@@ -4,6 +4,7 @@
 
 mod failures;
 mod poll;
+mod refusal;
 mod sink;
 mod source;
 mod steps;
@@ -13,6 +14,7 @@ mod wake_line;
 mod waker;
 
 pub use poll::{Poll, PollError};
+pub use refusal::Refusal;
 pub use sink::{BytesOut, FailingOut, Sink, SinkError, StdErr, StdOut, WriterSink, write_all};
 pub use source::{BytesIn, FailingIn, ReaderSource, Source, SourceFailed, StdIn};
 pub use steps::Steps;

@@ -11,14 +11,14 @@ use Rattle.band_base.specs.Device.{AppendsPrefix, Rose}
 use Rattle.band_play.specs.declared.fault.PlayFault.{PlayFault}
 use Rattle.band_play.specs.declared.fault.PlayFault.TheVariants as faults
 use Rattle.band_play.specs.declared.playing.Playing.{Playing}
-use Rattle.band_play.specs.Script.{Verdict, Good, Malformed, TooLong, verdict, verdict_from, verdict_at_end, lines_of, rest_of, calls_of, calls_within, transcript}
+use Rattle.band_rules.specs.Script.{Verdict, Good, Malformed, TooLong, verdict_on, verdict, lines_of, rest_of, calls_of, calls_within, transcript}
 use Rattle.band_play.specs.Play.{Comes, AllRead, Takes, TakesJust, PlaysGiven, StopsEarly, WritesFront, AnswersGiven, KeepsUp, answer_of, Completes}
 use Rattle.band_play.specs.Playing.{HasPlayed, PlaysPiece, Stops, StopsInPiece}
 use Rattle.band_play.specs.Answers.{Counts, Answers, answer_at_end}
 use Rattle.std.proofs.lemmas.Option.{none-some, same_Some}
 use Rattle.band_play.proofs.Devices.{takes_after, rises}
 use Rattle.band_play.proofs.HeldLemmas.{take_through}
-use Rattle.band_play.proofs.LineRuns.{AreCalls, verdict_of_calls}
+use Rattle.band_play.proofs.LineRuns.{AreCalls, verdict_at_end, verdict_of_calls}
 
 -- what was given of a script of at most `limit` bytes, that so many may still come of, is played
 pub record SoFar (limit left : ℕ) (playing : Playing) (first last before after : Option (List ℕ)) : Type 0 where
@@ -108,8 +108,8 @@ answers_read limit left playing first mid last before after start old new q keep
 -- the source ended
 verdict_within : (limit : ℕ) (given : List ℕ) → length given ≤ limit → AreCalls (lines_of given) → verdict limit given ≡ verdict_at_end (length (lines_of given)) (rest_of given) false
 verdict_within limit given size each =
-    ap (λ g. verdict_from 0 (lines_of g) (rest_of g) (nat_lt limit (length given))) (take_all limit given size)
-    ∙ ap (λ over. verdict_from 0 (lines_of given) (rest_of given) over) (le-ltb limit (length given) size)
+    ap (λ g. verdict_on (lines_of g) (rest_of g) (nat_lt limit (length given))) (take_all limit given size)
+    ∙ ap (λ over. verdict_on (lines_of given) (rest_of given) over) (le-ltb limit (length given) size)
     ∙ verdict_of_calls (lines_of given) (rest_of given) false each
 
 comes_at_end : (outcome : Verdict) (limit : ℕ) (given : List ℕ) (first last before after : Option (List ℕ)) → length given ≤ limit → Consumes first last given → IsAtEnd last → AreCalls (lines_of given) → Appends before after (transcript (calls_of (lines_of given))) → verdict_at_end (length (lines_of given)) (rest_of given) false ≡ outcome → Comes outcome limit first before after
@@ -154,8 +154,8 @@ comes_over limit left piece cut old new first mid last before between after q gi
     (λ more at.
     let over : limit < length (given ++ more) = omega (arith, q.size, length-append q.given piece, length-append given more) in
     let same : take limit (given ++ more) ≡ take limit given = take-append-le limit given more size in (
-      ap (λ g. verdict_from 0 (lines_of g) (rest_of g) (nat_lt limit (length (given ++ more)))) same
-          ∙ ap (λ o. verdict_from 0 (lines_of (take limit given)) (rest_of (take limit given)) o) (lt-ltb limit (length (given ++ more)) over)
+      ap (λ g. verdict_on (lines_of g) (rest_of g) (nat_lt limit (length (given ++ more)))) same
+          ∙ ap (λ o. verdict_on (lines_of (take limit given)) (rest_of (take limit given)) o) (lt-ltb limit (length (given ++ more)) over)
           ∙ verdict_of_calls (lines_of (take limit given)) (rest_of (take limit given)) true each,
       subst W (sym same) adds,
     ))
@@ -182,7 +182,7 @@ answers_stop (faults.Malformed line) limit given first last before after counts 
     let through = take_through limit given more in
     let rest = take (limit - length given) more in
     let P : List ℕ → Type 0 = λ text. Appends before after text in (
-      ap (λ g. verdict_from 0 (lines_of g) (rest_of g) (nat_lt limit (length (given ++ more)))) through
+      ap (λ g. verdict_on (lines_of g) (rest_of g) (nat_lt limit (length (given ++ more)))) through
           ∙ stops.1.outcome rest (nat_lt limit (length (given ++ more))),
       subst P (sym (ap (λ g. transcript (calls_of (lines_of g))) through ∙ stops.1.transcript_is rest)) stops.2,
     ))

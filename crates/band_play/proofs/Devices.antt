@@ -28,15 +28,6 @@ front_after a b x y z p q = record {
   appended = Appends-trans x y z a q.prefix p q.appended;
 }
 
--- a prefix is one of a longer text
-pub front_of_longer : (a b : List ℕ) (x y : Option (List ℕ)) → AppendsPrefix a x y → AppendsPrefix (a ++ b) x y
-front_of_longer a b x y q = record {
-  prefix = q.prefix;
-  rest = q.rest ++ b;
-  whole = rw (← append_assoc, q.whole) refl;
-  appended = q.appended;
-}
-
 -- a count that rose after it had not fallen
 pub rises : (start old new : ℕ) → start ≤ old → Rose old new → Rose start new
 rises start old new kept rose = omega arith

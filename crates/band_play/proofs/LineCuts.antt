@@ -3,9 +3,9 @@ use Rattle.std.proofs.Common.{◌≡◌, ℕ, Bool, true, false, cond, List, [],
 use Rattle.std.proofs.lemmas.List.Elements.{All-nil, All-cons, All-append}
 use Rattle.std.proofs.lemmas.List.Splits.{slice_split_at, slice_split_none, slice_split-cons_yes, slice_split-cons_no}
 use Rattle.std.specs.List.{slice_split, onto_first}
-use Rattle.band_play.specs.Script.{is_newline, ended_parts, last_part, lines_of, rest_of}
+use Rattle.band_rules.specs.Script.{is_newline, ended_parts, last_part, lines_of, rest_of}
 use Rattle.band_play.specs.Lines.{HasNoNewline}
-use Rattle.band_play.proofs.Lists.{by_bool}
+use Rattle.band_balance.proofs.Held.{by_bool}
 
 -- bytes have a part, if only an empty one
 split_some : (bytes : List ℕ) → (part : List ℕ) × (parts : List (List ℕ)) × (slice_split is_newline bytes ≡ part ∷ parts)

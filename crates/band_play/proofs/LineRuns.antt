@@ -1,11 +1,12 @@
 -- Lines that each stand for a call: their calls, text and outcome, and those of lines after them.
-use Rattle.std.proofs.Common.{◌≡◌, ℕ, ◌+◌, Bool, List, [], ◌∷◌, ◌++◌, length, Option, Some, None, IsSome, refl, sym, ap, ◌∙◌, append_assoc, append-nil, arith}
+use Rattle.std.proofs.Common.{◌≡◌, ℕ, suc, ◌+◌, Bool, true, false, cond, nat_lt, List, [], ◌∷◌, ◌++◌, length, Option, Some, None, IsSome, refl, sym, ap, ◌∙◌, append_assoc, append-nil, length-append, arith}
 use Rattle.std.specs.List.{AllByRecursion}
+use Rattle.std.proofs.lemmas.Bool.{cond-true, cond-false, le-ltb, lt-ltb}
 use Rattle.band_script.specs.declared.call.Call.{Call}
 use Rattle.band_script.specs.Grammar.{call_of}
-use Rattle.band_play.specs.State.{State}
-use Rattle.band_play.specs.Step.{step}
-use Rattle.band_play.specs.Script.{Verdict, Malformed, verdict_from, verdict_after, verdict_at_end, lines_of, rest_of, calls_of, calls_from, transcript, transcript_from, state_from}
+use Rattle.band_rules.specs.State.{State}
+use Rattle.band_rules.specs.Step.{step}
+use Rattle.band_rules.specs.Script.{Verdict, Good, Malformed, TooLong, verdict_on, lines_of, rest_of, calls_of, calls_from, transcript, transcript_from, state_from}
 use Rattle.band_play.specs.Lines.{text_after}
 use Rattle.band_play.proofs.LineCuts.{lines_of-append}
 
@@ -36,22 +37,29 @@ transcript_from-append state (call ∷ first) second =
     ap (λ text. text_after call state ++ text) (transcript_from-append (step call state).state first second)
     ∙ sym (append_assoc (text_after call state) (transcript_from (step call state).state first) (transcript_from (state_from (step call state).state first) second))
 
-past_call : (call : Option Call) (done : ℕ) (later : Verdict) → IsSome call → verdict_after call done later ≡ later
-past_call None done later is = cc
-past_call (Some call) done later is = refl
+length_calls : (lines : List (List ℕ)) → AreCalls lines → length (calls_of lines) ≡ length lines
+length_calls [] each = refl
+length_calls (line ∷ lines) each = go (call_of line) each.0 ∙ ap suc (length_calls lines each.1)
+  where
+    go : (call : Option Call) → IsSome call → length (calls_from call (calls_of lines)) ≡ suc (length (calls_of lines))
+    go None is = cc
+    go (Some call) is = refl
 
-pub verdict_from-append : (done : ℕ) (first second : List (List ℕ)) (rest : List ℕ) (over : Bool) → AreCalls first → verdict_from done (first ++ second) rest over ≡ verdict_from (done + length first) second rest over
-verdict_from-append done [] second rest over each = let same : done ≡ done + 0 = omega arith in ap (λ n. verdict_from n second rest over) same
-verdict_from-append done (line ∷ first) second rest over each =
-    let same : (done + 1) + length first ≡ done + length (line ∷ first) = omega arith in
-    past_call (call_of line) done (verdict_from (done + 1) (first ++ second) rest over) each.0
-    ∙ verdict_from-append (done + 1) first second rest over each.1
-    ∙ ap (λ n. verdict_from n second rest over) same
+-- after so many lines: what was left
+abbrev pub verdict_at_end : ℕ → List ℕ → Bool → Verdict
+verdict_at_end done rest true = TooLong
+verdict_at_end done [] false = Good done
+verdict_at_end done (byte ∷ rest) false = Malformed (done + 1)
 
-pub verdict_of_calls : (lines : List (List ℕ)) (rest : List ℕ) (over : Bool) → AreCalls lines → verdict_from 0 lines rest over ≡ verdict_at_end (length lines) rest over
+pub verdict_of_calls : (lines : List (List ℕ)) (rest : List ℕ) (over : Bool) → AreCalls lines → verdict_on lines rest over ≡ verdict_at_end (length lines) rest over
 verdict_of_calls lines rest over each =
-    let same : 0 + length lines ≡ length lines = omega arith in
-    ap (λ l. verdict_from 0 l rest over) (sym (append-nil lines)) ∙ verdict_from-append 0 lines [] rest over each ∙ ap (λ n. verdict_at_end n rest over) same
+    ap (λ done. cond (nat_lt done (length lines)) (Malformed (done + 1)) (cond over TooLong (cond (nat_lt 0 (length rest)) (Malformed (done + 1)) (Good done)))) (length_calls lines each)
+    ∙ cond-false (nat_lt (length lines) (length lines)) _ _ (le-ltb (length lines) (length lines) (omega arith)) ∙ go (length lines) rest over
+  where
+    go : (done : ℕ) (rest : List ℕ) (over : Bool) → cond over TooLong (cond (nat_lt 0 (length rest)) (Malformed (done + 1)) (Good done)) ≡ verdict_at_end done rest over
+    go done rest true = refl
+    go done [] false = refl
+    go done (byte ∷ rest) false = cond-true (nat_lt 0 (length (byte ∷ rest))) _ _ (lt-ltb 0 (length (byte ∷ rest)) (omega arith))
 
 -- where the next line stands for no call
 no_call_at : (line : List ℕ) (later : List Call) → call_of line ≡ None → calls_from (call_of line) later ≡ []
@@ -61,12 +69,12 @@ pub calls_until : (lines later : List (List ℕ)) (line : List ℕ) → AreCalls
 calls_until lines later line each is =
     calls_of-append lines (line ∷ later) each ∙ ap (λ calls. calls_of lines ++ calls) (no_call_at line (calls_of later) is) ∙ append-nil (calls_of lines)
 
-pub verdict_until : (lines later : List (List ℕ)) (line rest : List ℕ) (over : Bool) → AreCalls lines → call_of line ≡ None → verdict_from 0 (lines ++ line ∷ later) rest over ≡ Malformed (length lines + 1)
+pub verdict_until : (lines later : List (List ℕ)) (line rest : List ℕ) (over : Bool) → AreCalls lines → call_of line ≡ None → verdict_on (lines ++ line ∷ later) rest over ≡ Malformed (length lines + 1)
 verdict_until lines later line rest over each is =
-    let same : (0 + length lines) + 1 ≡ length lines + 1 = omega arith in
-    verdict_from-append 0 lines (line ∷ later) rest over each
-    ∙ ap (λ call. verdict_after call (0 + length lines) (verdict_from ((0 + length lines) + 1) later rest over)) is
-    ∙ ap (λ n. Malformed n) same
+    let until : length (calls_of (lines ++ line ∷ later)) ≡ length lines = ap length (calls_until lines later line each is) ∙ length_calls lines each in
+    cond-true (nat_lt (length (calls_of (lines ++ line ∷ later))) (length (lines ++ line ∷ later))) _ _
+    (lt-ltb (length (calls_of (lines ++ line ∷ later))) (length (lines ++ line ∷ later)) (omega (arith, until, length-append lines (line ∷ later))))
+    ∙ ap (λ n. Malformed (n + 1)) until
 
 -- where it stands for one
 one_call : (line : List ℕ) (call : Call) → call_of line ≡ Some call → calls_of (line ∷ []) ≡ call ∷ []

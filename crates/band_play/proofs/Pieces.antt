@@ -12,7 +12,7 @@ use Rattle.band_play.specs.declared.playing.Playing.{Playing}
 use Rattle.band_play.specs.Faults.{fault_of}
 use Rattle.band_script.specs.Grammar.{call_of}
 use Rattle.band_play.specs.Player.{StandsFor}
-use Rattle.band_play.specs.Script.{Malformed, verdict_from, lines_of, rest_of, calls_of, transcript, state_from}
+use Rattle.band_rules.specs.Script.{Malformed, verdict_on, lines_of, rest_of, calls_of, transcript, state_from}
 use Rattle.band_play.specs.Lines.{HasNoNewline, Tells, text_after}
 use Rattle.band_play.specs.Playing.{HasRun, HasPlayed, IsMalformedAt, RunsPiece, PlaysPiece, Stops, StopsInPiece}
 use Rattle.band_play.proofs.Devices.{front_after}
@@ -60,11 +60,11 @@ rest_run given front more old new run none player text count held =
     }
 
 -- at a line that stands for no call
-malformed_line : (given front end after more : List ℕ) (playing : Playing) → HasRun given front playing → HasNoNewline end → call_of (rest_of given ++ end) ≡ None → (over : Bool) → (verdict_from 0 (lines_of (given ++ (end ++ 10 ∷ (after ++ more)))) (rest_of (given ++ (end ++ 10 ∷ (after ++ more)))) over ≡ Malformed (playing.lines + 1)) × (transcript (calls_of (lines_of (given ++ (end ++ 10 ∷ (after ++ more))))) ≡ front ++ string_bytes playing.text)
+malformed_line : (given front end after more : List ℕ) (playing : Playing) → HasRun given front playing → HasNoNewline end → call_of (rest_of given ++ end) ≡ None → (over : Bool) → (verdict_on (lines_of (given ++ (end ++ 10 ∷ (after ++ more)))) (rest_of (given ++ (end ++ 10 ∷ (after ++ more)))) over ≡ Malformed (playing.lines + 1)) × (transcript (calls_of (lines_of (given ++ (end ++ 10 ∷ (after ++ more))))) ≡ front ++ string_bytes playing.text)
 malformed_line given front end after more playing run none is over =
     let rest = rest_of (given ++ (end ++ 10 ∷ (after ++ more))) in
     let lines = lines_of-end given end (after ++ more) none in (
-      ap (λ l. verdict_from 0 l rest over) lines
+      ap (λ l. verdict_on l rest over) lines
           ∙ verdict_until (lines_of given) (lines_of (after ++ more)) (rest_of given ++ end) rest over run.each is
           ∙ ap (λ n. Malformed (n + 1)) (sym run.count),
       ap (λ l. transcript (calls_of l)) lines
@@ -111,7 +111,7 @@ malformed_in piece rest end after old mid q cut none ends given front run =
     ∙ sym (append_assoc given piece more) in
     record {
       outcome = λ more over.
-          let P : List ℕ → Type 0 = λ b. verdict_from 0 (lines_of b) (rest_of b) over ≡ Malformed (mid.lines + 1) in
+          let P : List ℕ → Type 0 = λ b. verdict_on (lines_of b) (rest_of b) over ≡ Malformed (mid.lines + 1) in
           subst P (bytes more) (malformed_line (given ++ q.done) front end after more mid before none is over).0;
       transcript_is = λ more.
           let P : List ℕ → Type 0 = λ b. transcript (calls_of (lines_of b)) ≡ front ++ string_bytes mid.text in

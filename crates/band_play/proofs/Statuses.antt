@@ -4,7 +4,7 @@ use Rattle.std.proofs.KnownBytes.{Appends-nil}
 use Rattle.band_base.specs.Device.{AppendsPrefix}
 use Rattle.band_play.specs.declared.fault.PlayFault.{PlayFault}
 use Rattle.band_play.specs.declared.fault.PlayFault.TheVariants as faults
-use Rattle.band_play.specs.Script.{calls_within, transcript}
+use Rattle.band_rules.specs.Script.{calls_within, transcript}
 use Rattle.band_play.specs.Text.{fault_text, usage_text}
 use Rattle.band_play.specs.Play.{WritesFront, Told, ToldText, ToldWith, status_of}
 

@@ -1,6 +1,6 @@
 -- What the maps of the names say of a change, by names.
 use Rattle.std.proofs.Common.{◌≡◌, ℕ, true, false, List, Option, Some, None, Result, Ok, Err, refl, sym, ap, ap₂, ◌∙◌, subst}
-use Rattle.std.proofs.lemmas.Bool.{false≢true}
+use Rattle.std.proofs.lemmas.Bool.{cond-true, cond-false, false≢true}
 use Rattle.std.proofs.lemmas.Option.{none-some}
 use Rattle.std.specs.Ordering.{nat_cmp}
 use Rattle.std.specs.Cmp.Lexicographic.{slice_cmp}
@@ -12,12 +12,11 @@ use Rattle.std.proofs.lemmas.Map.Text.{is_eq-slice_cmp}
 use Rattle.band_play.specs.Apart.{at, AreApart, Sets}
 use Rattle.band_play.specs.Thing.{Thing}
 use Rattle.band_play.specs.Thing as things
-use Rattle.band_play.specs.Token.{TokenState, ended, thing_of}
-use Rattle.band_play.specs.Token as tokens
+use Rattle.band_play.specs.Token.{TokenState, thing_of}
 use Rattle.band_play.specs.declared.names.Names.{Names}
 use Rattle.band_play.specs.Names.{thing_from, table_of, thing_at, Updated, is_object}
-use Rattle.band_play.proofs.Lists.{by_bool, cond_true, cond_false}
-use Rattle.band_play.proofs.Standing.{same_bytes}
+use Rattle.band_balance.proofs.Held.{by_bool}
+use Rattle.band_balance.proofs.Rules.{bytes_told}
 
 sets_of : {X : Type 0} (m n : BTreeMap (List ℕ) X) (k : List ℕ) (w : Option X) → Updates (slice_cmp nat_cmp) m n k w → Sets m n k w
 sets_of m n k w update = record { each = update.0 }
@@ -29,10 +28,10 @@ sets_seen {X} m inside n k w seen update = subst (λ (o : BTreeMap (List ℕ) X)
 -- what a map has after a change
 module _ {X : Type 0} (m n : BTreeMap (List ℕ) X) (k : List ℕ) (w : Option X) (sets : Sets m n k w) (q : List ℕ) where
   at_changed : bytes_eq k q ≡ true → at n q ≡ w
-  at_changed same = sets.each q ∙ cond_true (is_at (slice_cmp nat_cmp k) q) w (at m q) (is_eq-slice_cmp k q ∙ same)
+  at_changed same = sets.each q ∙ cond-true (is_at (slice_cmp nat_cmp k) q) w (at m q) (is_eq-slice_cmp k q ∙ same)
 
   at_kept : bytes_eq k q ≡ false → at n q ≡ at m q
-  at_kept other = sets.each q ∙ cond_false (is_at (slice_cmp nat_cmp k) q) w (at m q) (is_eq-slice_cmp k q ∙ other)
+  at_kept other = sets.each q ∙ cond-false (is_at (slice_cmp nat_cmp k) q) w (at m q) (is_eq-slice_cmp k q ∙ other)
 
 -- a map that was written at a name
 pub sets_written : {X : Type 0} (m inside n written : BTreeMap (List ℕ) X) (k : List ℕ) (x y : X) → inside ≡ m → n ≡ written → x ≡ y → Updates (slice_cmp nat_cmp) inside written k (Some x) → Sets m n k (Some y)
@@ -48,7 +47,7 @@ pub at_without : (m inside without n : BTreeMap (List ℕ) TokenState) (k : List
 at_without m inside without n k seen free update same q =
     let sets = sets_seen m inside without k None seen update in
     at_same without n same q ∙ by_bool (bytes_eq k q)
-    (λ is. at_changed m without k None sets q is ∙ sym (sym (ap (at m) (same_bytes k q is)) ∙ free))
+    (λ is. at_changed m without k None sets q is ∙ sym (sym (ap (at m) (bytes_told.equal k q is)) ∙ free))
     (λ other. at_kept m without k None sets q other)
 
 pub if_ok : {A E : Type 0} {P Q : A → Type 0} (r : Result A E) → IfOk r P → ((x : A) → P x → Q x) → IfOk r Q
@@ -72,12 +71,6 @@ no_place : (o : Option ℕ) (t : Option TokenState) → is_object (thing_from o 
 no_place None t test = refl
 no_place (Some place) t test = absurd (false≢true (sym test))
 
-ended_from : (o : Option ℕ) (t : Option TokenState) → thing_from o t ≡ Some (thing_of ended) → t ≡ Some ended
-ended_from None None is = absurd (none-some (thing_of ended) is)
-ended_from None (Some (tokens.Request request)) is = cc
-ended_from None (Some (tokens.Holding holding)) is = cc
-ended_from (Some place) t is = cc
-
 none_unless : (o : Option ℕ) → ((place : ℕ) → o ≡ Some place → ⊥) → o ≡ None
 none_unless None never = refl
 none_unless (Some place) never = absurd (never place refl)
@@ -88,10 +81,6 @@ module _ (names : Names) (k : List ℕ) where
 
   pub free_of_object : is_object (thing_at names k) ≡ false → at names.objects k ≡ None
   free_of_object = no_place (at names.objects k) (at names.tokens k)
-
-  -- where a token was taken
-  pub ended_there : thing_at names k ≡ Some (thing_of ended) → at names.tokens k ≡ Some ended
-  ended_there = ended_from (at names.objects k) (at names.tokens k)
 
   -- a token's name is no object's
   pub no_object : (token : TokenState) → at names.tokens k ≡ Some token → at names.objects k ≡ None
@@ -114,7 +103,7 @@ module _ (names : Names) (k : List ℕ) where
     pub object_apart : {A E : Type 0} (result : Result A E) → at names.tokens k ≡ None → OnOk result (Updates (slice_cmp nat_cmp) names.objects objects k (Some place)) → OnErr result (IsUnchanged names.objects objects)
         → AreApart objects names.tokens
     object_apart (Ok x) free update same name p token is_place is_token = by_bool (bytes_eq k name)
-        (λ same_name. none-some token (sym free ∙ ap (at names.tokens) (same_bytes k name same_name) ∙ is_token))
+        (λ same_name. none-some token (sym free ∙ ap (at names.tokens) (bytes_told.equal k name same_name) ∙ is_token))
         (λ other. names.apart name p token (sym (at_kept names.objects objects k _ (sets_of names.objects objects k _ update) name other) ∙ is_place) is_token)
     object_apart (Err e) free update same name p token is_place is_token = names.apart name p token (sym (at_same names.objects objects same name) ∙ is_place) is_token
 
@@ -122,13 +111,13 @@ module _ (names : Names) (k : List ℕ) where
   module _ (tokens : BTreeMap (List ℕ) TokenState) where
     pub token_set : (w : Option TokenState) → at names.objects k ≡ None → Sets names.tokens tokens k w → Updated (thing_at names) (table_of names.objects tokens) k (thing_from None w)
     token_set w free sets = record {
-      here = λ q same. ap₂ thing_from (ap (at names.objects) (sym (same_bytes k q same)) ∙ free) (at_changed names.tokens tokens k w sets q same);
+      here = λ q same. ap₂ thing_from (ap (at names.objects) (sym (bytes_told.equal k q same)) ∙ free) (at_changed names.tokens tokens k w sets q same);
       others = λ q other. ap (thing_from (at names.objects q)) (at_kept names.tokens tokens k w sets q other);
     }
 
     pub apart_set : (w : Option TokenState) → at names.objects k ≡ None → Sets names.tokens tokens k w → AreApart names.objects tokens
     apart_set w free sets name p token is_place is_token = by_bool (bytes_eq k name)
-        (λ same. none-some p (sym free ∙ ap (at names.objects) (same_bytes k name same) ∙ is_place))
+        (λ same. none-some p (sym free ∙ ap (at names.objects) (bytes_told.equal k name same) ∙ is_place))
         (λ other. names.apart name p token is_place (sym (at_kept names.tokens tokens k w sets name other) ∙ is_token))
 
     pub apart_kept : ((name : List ℕ) → at tokens name ≡ at names.tokens name) → AreApart names.objects tokens
@@ -142,6 +131,6 @@ module _ (names : Names) (k : List ℕ) where
 
     pub tokens_kept : (thing : Option Thing) → thing_at names k ≡ thing → IsUnchanged names.tokens tokens → Updated (thing_at names) (table_of names.objects tokens) k thing
     tokens_kept thing is same = record {
-      here = λ q same_name. ap (thing_from (at names.objects q)) (at_same names.tokens tokens same q) ∙ ap (thing_at names) (sym (same_bytes k q same_name)) ∙ is;
+      here = λ q same_name. ap (thing_from (at names.objects q)) (at_same names.tokens tokens same q) ∙ ap (thing_at names) (sym (bytes_told.equal k q same_name)) ∙ is;
       others = λ q other. ap (thing_from (at names.objects q)) (at_same names.tokens tokens same q);
     }

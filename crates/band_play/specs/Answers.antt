@@ -3,7 +3,7 @@ use Rattle.std.specs.Prelude.{ℕ, ◌+◌, List, [], ◌∷◌, Option, Result,
 use Rattle.band_base.specs.Device.{Rose}
 use Rattle.band_play.specs.declared.fault.PlayFault.{PlayFault}
 use Rattle.band_play.specs.declared.fault.PlayFault.TheVariants as faults
-use Rattle.band_play.specs.Script.{Good, Malformed, TooLong}
+use Rattle.band_rules.specs.Script.{Good, Malformed, TooLong}
 use Rattle.band_play.specs.Play.{Comes, AllRead, TakesJust, StopsEarly}
 
 -- how often each device had failed before, and has now

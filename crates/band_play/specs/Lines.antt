@@ -3,11 +3,11 @@ use Rattle.std.specs.Prelude.{◌≡◌, ℕ, false, List, ◌++◌}
 use Rattle.std.specs.List.{All}
 use Rattle.band_script.specs.declared.call.Call.{Call}
 use Rattle.band_play.specs.declared.player.Player.{Player}
-use Rattle.band_play.specs.State.{State}
-use Rattle.band_play.specs.Step.{step}
-use Rattle.band_play.specs.Text.{text_of}
+use Rattle.band_rules.specs.State.{State}
+use Rattle.band_rules.specs.Step.{step}
+use Rattle.band_rules.specs.Text.{effect_text}
 use Rattle.band_play.specs.Player.{StandsFor}
-use Rattle.band_play.specs.Script.{is_newline}
+use Rattle.band_rules.specs.Script.{is_newline}
 
 -- no newline stands in it
 abbrev pub HasNoNewline : List ℕ → Type 0
@@ -15,7 +15,7 @@ HasNoNewline bytes = All (λ byte. is_newline byte ≡ false) bytes
 
 -- the text that a call's outcome has in the transcript
 abbrev pub text_after : Call → State → List ℕ
-text_after call state = text_of (step call state).reply (step call state).woken
+text_after call state = effect_text (step call state).reply (step call state).woken
 
 -- the call's text was added, and the player came to the call's state
 abbrev pub Tells : Call → Player → Player → List ℕ → List ℕ → Type 0

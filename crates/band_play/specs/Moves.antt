@@ -1,29 +1,32 @@
 -- What a poll and a drop of a thing make of the semaphores.
-use Rattle.std.specs.Prelude.{◌≡◌, ℕ, Bool, true, false, [], ◌+◌, ◌-◌, ◌<◌, ◌≤◌, ◌==◌, if◌then◌else◌, List, length, Option, Some, None, Result, Ok, Err, slice_get, slice_set}
+use Rattle.std.specs.Prelude.{◌≡◌, ℕ, Bool, true, false, ◌+◌, ◌-◌, ◌<◌, ◌≤◌, ◌==◌, if◌then◌else◌, List, length, Option, Some, None, Result, Ok, Err, slice_get, slice_set}
 use Rattle.std.specs.Str.{bytes_eq}
-use Rattle.band_balance.specs.Line.{open_line, u64_max}
+use Rattle.band_balance.specs.Line.{u64_max}
 use Rattle.band_base.specs.declared.poll.Poll.{Poll}
 use Rattle.band_base.specs.declared.poll.Poll.TheVariants as polls
 use Rattle.band_base.specs.declared.poll.PollError.{PollError}
-use Rattle.band_sem.specs.declared.refusal.Refusal.{Refusal}
-use Rattle.band_sem.specs.declared.refusal.Refusal.TheVariants.{Unknown, Kind, Same, Finished, Other}
+use Rattle.band_base.specs.declared.refusal.Refusal.{Refusal}
+use Rattle.band_base.specs.declared.refusal.Refusal.TheVariants.{Unknown, Kind, Same, Finished, Other}
 use Rattle.band_sem.specs.Request.{Stage}
 use Rattle.band_sem.specs.Request as stages
 use Rattle.band_sem.specs.Semaphore.{IsOwn, Polls, given_back, cancelled}
 use Rattle.band_sem.specs.Permit.{Permit as Held}
 use Rattle.band_balance.specs.Object.{Mode, Permit, Lock, Read, Write, size_of}
 use Rattle.band_balance.specs.Object as object
-use Rattle.band_play.specs.Objects.{ObjectState, RequestState, HoldingState, shares_of, on_semaphore, asked_of, permit_in, IsSteady, Fits}
-use Rattle.band_play.specs.Step.{is_of, same_mode}
-use Rattle.band_play.specs.State.{Tag}
+use Rattle.band_play.specs.Objects.{ObjectState, RequestState, HoldingState, shares_of, on_semaphore, asked_of, permit_in, IsSteady}
+use Rattle.band_balance.specs.Rule.{Fits}
+use Rattle.band_balance.specs.Object.{is_of}
+use Rattle.band_rules.specs.Plan.{same_mode, most_readers}
+use Rattle.band_script.specs.declared.call.Call.{Call}
+use Rattle.band_script.specs.declared.call.Call.TheVariants as calls
 use Rattle.band_play.specs.declared.object.New.{New}
 use Rattle.band_play.specs.declared.object.New.TheVariants as news
 use Rattle.band_play.specs.declared.object.Want.{Want}
 use Rattle.band_play.specs.declared.object.Want.TheVariants as wants
-use Rattle.band_play.specs.declared.reply.Reply.{Reply}
-use Rattle.band_play.specs.declared.reply.Reply.TheVariants as replies
+use Rattle.band_rules.specs.declared.reply.Reply.{Reply}
+use Rattle.band_rules.specs.declared.reply.Reply.TheVariants as replies
 use Rattle.band_play.specs.Names.{Updated}
-use Rattle.band_play.specs.Thing.{Thing}
+use Rattle.band_play.specs.Thing.{Thing, place_at}
 use Rattle.band_play.specs.Thing as things
 
 abbrev pub IsJoined : Stage → Type 0
@@ -93,7 +96,7 @@ PollsThing (things.Holding holding) waker old thing reply new =
 PollsThing (things.Request place request) waker old thing reply new = PollsRequest place request waker old thing reply new
 
 -- one object becomes another
-pub record Becomes (place : ℕ) (old new : List ObjectState) (step : ObjectState → ObjectState) : Type 0 where
+pub record Changes (place : ℕ) (old new : List ObjectState) (step : ObjectState → ObjectState) : Type 0 where
   pub before : ObjectState
   pub there : slice_get old place ≡ Some before
   pub set : new ≡ slice_set old place (step before)
@@ -105,8 +108,8 @@ cancelled_at stage sem = on_semaphore (cancelled stage) sem
 
 abbrev pub DropsThing : Thing → List ObjectState → List ObjectState → Type 0
 DropsThing (things.Object place) old new = new ≡ old
-DropsThing (things.Holding holding) old new = Becomes holding.of old new (on_semaphore (given_back holding.count))
-DropsThing (things.Request place request) old new = Becomes place old new (cancelled_at request.stage)
+DropsThing (things.Holding holding) old new = Changes holding.of old new (on_semaphore (given_back holding.count))
+DropsThing (things.Request place request) old new = Changes place old new (cancelled_at request.stage)
 
 abbrev pub kind_at : Option ObjectState → Option object.Kind
 kind_at None = None
@@ -117,11 +120,11 @@ abbrev pub IsNumbered : List ObjectState → ℕ → Type 0
 IsNumbered sems place = (sem : ObjectState) → slice_get sems place ≡ Some sem → sem.number ≡ place
 
 -- the place of an object, or why there is none
-abbrev pub object_of : Option Thing → Result ℕ Refusal
-object_of None = Err Unknown
-object_of (Some (things.Object place)) = Ok place
-object_of (Some (things.Request place request)) = Err Kind
-object_of (Some (things.Holding holding)) = Err Kind
+abbrev pub object_place : Option Thing → Result ℕ Refusal
+object_place None = Err Unknown
+object_place (Some (things.Object place)) = Ok place
+object_place (Some (things.Request place request)) = Err Kind
+object_place (Some (things.Holding holding)) = Err Kind
 
 -- the place of an object of which this is asked, or why there is none
 abbrev pub offers_at : Mode → Option ObjectState → Bool
@@ -150,12 +153,6 @@ pub record HasCount (found : Option Thing) (count : ℕ) : Type 0 where
   pub permit : HoldingState
   pub is : held_as Permit found ≡ Ok permit
   pub same : count ≡ permit.count
-
--- the place of the object that a thing is, or is of
-abbrev pub place_at : Thing → ℕ
-place_at (things.Object place) = place
-place_at (things.Request place request) = place
-place_at (things.Holding holding) = holding.of
 
 -- a poll of what a name is: the place of its object, and the reply
 pub record PollsName (name : List ℕ) (waker : ℕ) (table table' : List ℕ → Option Thing) (old new : List ObjectState) (place : ℕ) (reply : Reply) : Type 0 where
@@ -242,21 +239,30 @@ pub record AsksName (name : List ℕ) (place : ℕ) (want : Want) (waker : ℕ) 
 abbrev pub kind_made : New → object.Kind
 kind_made (news.Semaphore n) = object.Semaphore
 kind_made news.Mutex = object.Mutex
-kind_made (news.ReaderWriter max) = object.ReaderWriter max
+kind_made (news.ReaderWriter n) = object.ReaderWriter (most_readers n)
 
 abbrev pub count_made : New → ℕ
 count_made (news.Semaphore n) = n
 count_made news.Mutex = 1
-count_made (news.ReaderWriter max) = max
+count_made (news.ReaderWriter n) = most_readers n
 
-abbrev pub object_made : New → object.Object Tag
-object_made new = record { kind = kind_made new; line = open_line (count_made new); held = [] }
+-- the calls of scripts that ask an object for this, or make one
+abbrev pub ask_call : Want → List ℕ → List ℕ → ℕ → Call
+ask_call (wants.Permits n) made of waker = calls.Ask made of n waker
+ask_call wants.Lock made of waker = calls.Lock made of waker
+ask_call wants.Read made of waker = calls.Read made of waker
+ask_call wants.Write made of waker = calls.Write made of waker
 
--- a lock is made for one reader at least
-abbrev pub IsForReaders : New → Type 0
-IsForReaders (news.Semaphore n) = Unit {0}
-IsForReaders news.Mutex = Unit {0}
-IsForReaders (news.ReaderWriter max) = 0 < max
+abbrev pub try_call : Want → List ℕ → List ℕ → Call
+try_call (wants.Permits n) made of = calls.Try made of n
+try_call wants.Lock made of = calls.TryLock made of
+try_call wants.Read made of = calls.TryRead made of
+try_call wants.Write made of = calls.TryWrite made of
+
+abbrev pub make_call : New → List ℕ → Call
+make_call (news.Semaphore n) made = calls.Sem made n
+make_call news.Mutex made = calls.Mutex made
+make_call (news.ReaderWriter n) made = calls.Rw made n
 
 -- all but one of so many go back
 abbrev pub downgraded : ℕ → ObjectState → ObjectState
@@ -268,5 +274,5 @@ pub record Downgrades (name : List ℕ) (table table' : List ℕ → Option Thin
   pub was : held_as Write (table name) ≡ Ok writer
   pub at : place ≡ writer.of
   pub some : 0 < writer.count
-  pub becomes : Becomes writer.of old new (downgraded writer.count)
+  pub becomes : Changes writer.of old new (downgraded writer.count)
   pub updated : Updated table table' name (Some (things.Holding (record { mode = Read; of = writer.of; count = 1 })))

@@ -91,18 +91,3 @@ IsLockOf (ReaderWriter max) sem = IsWholeLock (record { max = max; shares = sem 
 -- what holds of an object between any two calls
 abbrev pub IsSteady : ObjectState → Type 0
 IsSteady object = IsLawful (shares_of object) × IsLockOf object.kind (shares_of object)
-
--- a request or a holding of this mode and size is of an object of this kind
-abbrev pub Fits : Kind → Mode → ℕ → Type 0
-Fits Semaphore Permit size = Unit {0}
-Fits Semaphore Lock size = ⊥
-Fits Semaphore Read size = ⊥
-Fits Semaphore Write size = ⊥
-Fits Mutex Permit size = ⊥
-Fits Mutex Lock size = size ≡ 1
-Fits Mutex Read size = ⊥
-Fits Mutex Write size = ⊥
-Fits (ReaderWriter max) Permit size = ⊥
-Fits (ReaderWriter max) Lock size = ⊥
-Fits (ReaderWriter max) Read size = size ≡ 1
-Fits (ReaderWriter max) Write size = size ≡ max

@@ -7,7 +7,7 @@ use Rattle.band_play.specs.Text.{fault_text, usage_text}
 use Rattle.band_play.specs.declared.fault.PlayFault.{PlayFault}
 use Rattle.band_play.specs.declared.fault.PlayFault.TheVariants as faults
 use Rattle.band_script.specs.Grammar.{call_of}
-use Rattle.band_play.specs.Script.{Verdict, Good, Malformed, TooLong, verdict, lines_of, calls_of, calls_within, transcript}
+use Rattle.band_rules.specs.Script.{Verdict, Good, Malformed, TooLong, verdict, lines_of, calls_of, calls_within, transcript}
 
 -- where the source told its bytes: this is their outcome, and exactly the transcript of their calls was written
 abbrev pub Comes : Verdict → ℕ → Option (List ℕ) → Option (List ℕ) → Option (List ℕ) → Type 0

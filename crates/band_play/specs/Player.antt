@@ -1,15 +1,16 @@
 -- What contracts say of a player.
 use Rattle.std.specs.Prelude.{ℕ, List}
-use Rattle.band_script.specs.declared.call.Call.{Call}
-use Rattle.band_script.specs.declared.call.Call.TheVariants.{Sem, Mutex, Rw, Ask, Lock, Read, Write, Poll, Drop, Try}
-use Rattle.band_script.specs.declared.call.Call.TheVariants.{TryLock, TryRead, TryWrite, Release, Reduce, Drain, Forget, Split, Merge, Downgrade, Status}
-use Rattle.band_play.specs.declared.player.Player.{Player}
-use Rattle.band_play.specs.declared.reply.Reply.{Reply}
-use Rattle.band_play.specs.Lawful.{EachLawful}
-use Rattle.band_play.specs.State.{State}
-use Rattle.band_play.specs.Step.{Outcome}
-use Rattle.band_play.specs.Kept as kept
+use Rattle.std.specs.List.{AllByRecursion}
+use Rattle.band_balance.specs.Laws.{IsExclusive, IsWithin}
+use Rattle.band_balance.specs.Object.{Object}
+use Rattle.band_balance.specs.Settled.{HeadWaits}
+use Rattle.band_rules.specs.declared.reply.Reply.{Reply}
+use Rattle.band_rules.specs.State.{State, Named, Tag}
 pub use Rattle.band_script.specs.Call.{ForReaders}
+use Rattle.band_script.specs.declared.call.Call.{Call}
+use Rattle.band_script.specs.declared.call.Call.TheVariants.{Sem, Mutex, Rw, Ask, Lock, Read, Write, Poll, Drop, Try, TryLock, TryRead, TryWrite, Release, Reduce, Drain, Forget, Split, Merge, Downgrade, Status}
+use Rattle.band_play.specs.Kept as kept
+use Rattle.band_play.specs.declared.player.Player.{Player}
 
 -- the player has come to a state
 abbrev pub StandsFor : Player → State → Type 0
@@ -19,21 +20,30 @@ StandsFor player state = kept.StandsFor player.table state
 abbrev pub wakers_left : Player → List ℕ
 wakers_left player = kept.wakes_left player.table
 
--- from each state that the player may have come to, it gives the reply and the wakers of the call's outcome, and comes to its state
-abbrev pub Follows : (State → Outcome) → Player → Reply → Player → Type 0
+-- from each state that the player may have come to, it gives the reply and the wakers of the call's step, and comes to its state
+abbrev pub Follows : Call → Player → Reply → Player → Type 0
 Follows call old reply new = kept.Follows call old.table reply new.table
 
 -- in each state that the player may have come to, the call does its work: it is not refused, and not answered by `none`
-abbrev pub Works : (State → Outcome) → Player → Type 0
+abbrev pub Works : Call → Player → Type 0
 Works call player = kept.Works call player.table
 
 -- it has come to what it had come to, whichever of its wakers are taken
 abbrev pub Stays : Player → Player → Type 0
-Stays old new = kept.Remains old.table new.table
+Stays old new = kept.Stays old.table new.table
 
--- each object of every state that the player may have come to is lawful
+-- what is so of each object between any two calls
+pub record HasLaws (object : Object Tag) : Type 0 where
+  -- a write that is granted or held is alone, and of a mutex one at most is granted or held
+  pub exclusive : IsExclusive object
+  -- the first that waits asks for more than is free
+  pub head_waits : HeadWaits object.line.free object.line.waiting
+  -- what is granted and held is within the largest count, also with what is free, and so is what is owed
+  pub within : IsWithin object
+
+-- each object of every state that the player may have come to has them
 pub record KeepsLaws (player : Player) : Type 0 where
-  pub each : (state : State) → StandsFor player state → EachLawful state
+  pub each : (state : State) → StandsFor player state → AllByRecursion (λ (named : Named). HasLaws named.object) state
 
 -- the calls that take no memory
 abbrev pub TakesNoMemory : Call → Type 0

@@ -8,7 +8,7 @@ use Rattle.band_play.specs.declared.fault.PlayFault.TheVariants as faults
 use Rattle.band_play.specs.declared.playing.Playing.{Playing}
 use Rattle.band_script.specs.Grammar.{call_of}
 use Rattle.band_play.specs.Player.{StandsFor}
-use Rattle.band_play.specs.Script.{Malformed, verdict_from, lines_of, rest_of, calls_of, transcript, state_from}
+use Rattle.band_rules.specs.Script.{Malformed, verdict_on, lines_of, rest_of, calls_of, transcript, state_from}
 
 -- the ended lines of these bytes are run, each stands for a call, and their text is `front` and what is not written yet
 pub record HasRun (given front : List ℕ) (playing : Playing) : Type 0 where
@@ -27,7 +27,7 @@ pub record HasPlayed (given : List ℕ) (playing : Playing) (start now : Option 
 
 -- whatever comes after these bytes, this line is the first that stands for no call, and this is the text of those before it
 pub record IsMalformedAt (bytes : List ℕ) (line : ℕ) (text : List ℕ) : Type 0 where
-  pub outcome : (more : List ℕ) (over : Bool) → verdict_from 0 (lines_of (bytes ++ more)) (rest_of (bytes ++ more)) over ≡ Malformed line
+  pub outcome : (more : List ℕ) (over : Bool) → verdict_on (lines_of (bytes ++ more)) (rest_of (bytes ++ more)) over ≡ Malformed line
   pub transcript_is : (more : List ℕ) → transcript (calls_of (lines_of (bytes ++ more))) ≡ text
 
 -- the lines that end in a piece are run, or those before the first that stands for no call

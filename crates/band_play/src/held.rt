@@ -1,7 +1,7 @@
 //! The line that is not ended yet.
 ghost use Rattle.std.specs.Prelude.{◌≡◌, ◌↔◌, ℕ, ◌++◌, List, [], take, IsTrue, IfSome};
 ghost use Rattle.band_script.specs.Grammar.{call_of};
-ghost use Rattle.band_play.specs.Player.{ForReaders};
+ghost use Rattle.band_script.specs.Call.{ForReaders};
 
 use crate::{Call, parse_line};
 use arrayvec::ArrayVec;

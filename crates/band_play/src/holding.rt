@@ -42,17 +42,15 @@ fn add_permit(permit: &mut SemaphorePermit, more: SemaphorePermit)
 }
 
 impl Holding {
-    ghost use Rattle.std.specs.Prelude.{◌≡◌, ◌+◌, ◌-◌, ◌<◌, ◌≤◌, ◌↔◌, IsNone, IfSome, IfNone};
+    ghost use Rattle.std.specs.Prelude.{◌≡◌, ◌+◌, ◌-◌, ◌<◌, ◌≤◌, ◌↔◌, IsNone, Some, IfSome, IfNone};
     ghost use Rattle.band_balance.specs.Object.{Permit, Read, Write};
     ghost use Rattle.band_sem.specs.Semaphore.{given_back, forgotten};
-    ghost use Rattle.band_play.specs.Objects.{on_semaphore, IsSteady, Fits};
-    ghost use Rattle.band_play.specs.Moves.{downgraded};
+    ghost use Rattle.band_play.specs.Objects.{on_semaphore, IsSteady};
+    ghost use Rattle.band_play.specs.Moves.{FitsHolding, downgraded};
 
     /// Gives it back.
     pub(crate) fn drop_to<L: Ledger>(self, object: &mut Object, steps: &mut Steps<L>)
-        requires number { self.of ≡ object.old.number }
-        requires held { self.count ≤ object.old.held }
-        requires fits { Fits object.old.kind self.mode self.count }
+        requires fits { FitsHolding (Some object.old) self }
         ensures state { object.new ≡ on_semaphore (given_back self.count) object.old }
         ensures steady { IsSteady object.new }
     {
@@ -87,9 +85,7 @@ impl Holding {
     /// Ends a permit, and nothing comes back.
     pub(crate) fn forget_at(self, object: &mut Object)
         requires mode { self.mode ≡ Permit }
-        requires number { self.of ≡ object.old.number }
-        requires held { self.count ≤ object.old.held }
-        requires fits { Fits object.old.kind self.mode self.count }
+        requires fits { FitsHolding (Some object.old) self }
         ensures state { object.new ≡ on_semaphore (forgotten self.count) object.old }
         ensures steady { IsSteady object.new }
     {
@@ -109,9 +105,7 @@ impl Holding {
         steps: &mut Steps<L>,
     ) -> Holding
         requires mode { self.mode ≡ Write }
-        requires number { self.of ≡ object.old.number }
-        requires held { self.count ≤ object.old.held }
-        requires fits { Fits object.old.kind self.mode self.count }
+        requires fits { FitsHolding (Some object.old) self }
         ensures some { 0 < self.count }
         ensures reader { result ≡ record { mode = Read; of = self.of; count = 1 } }
         ensures state { object.new ≡ downgraded self.count object.old }

@@ -1,7 +1,8 @@
 //! Lines: where they end, and the telling of their calls.
 ghost use Rattle.std.specs.Prelude.{◌≡◌, [], ◌∷◌, ◌++◌, OnOk, MatchOption, string_bytes, flat_map};
-ghost use Rattle.band_play.specs.Player.{ForReaders, wakers_left, Stays};
-ghost use Rattle.band_play.specs.Text.{wake_line};
+ghost use Rattle.band_script.specs.Call.{ForReaders};
+ghost use Rattle.band_play.specs.Player.{wakers_left, Stays};
+ghost use Rattle.band_rules.specs.Text.{wake_line};
 ghost use Rattle.band_play.specs.Lines.{HasNoNewline, Tells};
 
 use crate::print::{push_reply, push_wake};

@@ -26,12 +26,12 @@ impl Names {
     ghost use Rattle.band_balance.specs.Object.{Mode, Permit, Write};
     ghost use Rattle.band_sem.specs.Semaphore.{taken};
     ghost use Rattle.band_play.specs.Objects.{on_semaphore, IsSteady};
-    ghost use Rattle.band_play.specs.Step.{is_of};
+    ghost use Rattle.band_balance.specs.Object.{is_of};
     ghost use Rattle.band_play.specs.Thing.{Thing};
     ghost use Rattle.band_play.specs.Thing as things;
     ghost use Rattle.band_play.specs.Token.{ended, thing_of};
     ghost use Rattle.band_play.specs.Names.{thing_at, AreSame, Updated, is_object};
-    ghost use Rattle.band_play.specs.Moves.{IsFit, AsksName, IsOffered, PollsName, mode_of, size_for, object_of, held_as, HeldAt, HasCount, HasPermits, SplitsTo, CanGrow, Grows, Downgrades};
+    ghost use Rattle.band_play.specs.Moves.{IsFit, AsksName, IsOffered, PollsName, mode_of, size_for, object_place, held_as, HeldAt, HasCount, HasPermits, SplitsTo, CanGrow, Grows, Downgrades};
 
     /// No name.
     pub(crate) fn new(alloc: Global) -> Names
@@ -59,7 +59,7 @@ impl Names {
 
     /// The place of the object with this name.
     pub(crate) fn object_at(&self, name: &Name) -> Result<u64, Refusal>
-        ensures { result ≡ object_of (thing_at self.now name.now) }
+        ensures { result ≡ object_place (thing_at self.now name.now) }
     {
         match self.objects.get(name) {
             Some(place) => Ok(*place),

@@ -1,4 +1,6 @@
 //! The objects of a script.
+ghost use Rattle.std.specs.Prelude.{◌≡◌};
+ghost use Rattle.band_rules.specs.Plan.{most_readers};
 
 use crate::holding::{AnyHolding, Holding};
 use crate::request::{AnyRequest, Request};
@@ -22,7 +24,7 @@ pub(crate) enum Primitive {
 pub(crate) enum New {
     Semaphore(u64),
     Mutex,
-    ReaderWriter(u64),
+    ReaderWriter(Option<u64>),
 }
 
 /// What a call asks an object for.
@@ -38,6 +40,19 @@ pub(crate) enum Want {
 #[derive(Drop)]
 pub(crate) struct Object {
     pub(crate) primitive: Primitive,
+}
+
+/// The most readers of a lock where its line names none.
+const MAX_READERS: u64 = u64::MAX >> 1;
+
+/// The most readers of a lock.
+fn most_readers(n: Option<u64>) -> u64
+    ensures { result ≡ most_readers n }
+{
+    match n {
+        None => MAX_READERS,
+        Some(n) => n,
+    }
 }
 
 // A script keeps so many bytes for each object, beside its name.
@@ -59,19 +74,20 @@ impl Object {
     ghost use Rattle.band_sem.specs.Request.{new_request};
     ghost use Rattle.band_sem.specs.Semaphore.{new_state, taken, released, reduced};
     ghost use Rattle.band_play.specs.Objects.{of_kind, shares_of, on_semaphore, in_mode, IsSteady, TakesWakeOf};
-    ghost use Rattle.band_play.specs.Moves.{mode_of, size_for, kind_made, count_made, IsForReaders};
-    ghost use Rattle.band_play.specs.Step.{is_of};
+    ghost use Rattle.band_play.specs.Moves.{mode_of, size_for, kind_made, count_made};
+    ghost use Rattle.band_balance.specs.Laws.{LetsIn};
+    ghost use Rattle.band_balance.specs.Object.{is_of};
 
     /// A new object with this number.
     pub(crate) fn new(alloc: Global, number: u64, new: New) -> Object
-        requires { IsForReaders new }
+        requires { LetsIn (kind_made new) }
         ensures start { result ≡ of_kind (kind_made new) (new_state number (count_made new)) }
         ensures steady { IsSteady result }
     {
         match new {
             New::Semaphore(n) => Object::new_semaphore(alloc, number, n),
             New::Mutex => Object::new_mutex(alloc, number),
-            New::ReaderWriter(max) => Object::new_reader_writer(alloc, number, max),
+            New::ReaderWriter(n) => Object::new_reader_writer(alloc, number, most_readers(n)),
         }
     }
 

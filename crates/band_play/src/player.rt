@@ -1,8 +1,6 @@
 //! The player: one call after another on named objects.
 ghost use Rattle.std.proofs.Props.{props};
-ghost use Rattle.std.specs.Prelude.{◌≡◌};
 ghost use Rattle.band_play.specs.Kept.{IsSound};
-ghost use Rattle.band_play.specs.Step.{most_readers};
 
 use crate::object::{New, Want};
 use crate::table::Table;
@@ -11,9 +9,6 @@ use band_base::{Steps, Waker};
 use std::alloc::{AllocError, Global};
 use std::sync::ledger::Ledger;
 
-/// The most readers of a lock where its line names none.
-const MAX_READERS: u64 = u64::MAX >> 1;
-
 /// Named objects, and the requests and permits that scripts made of them. Dropping it loses the tokens inside.
 pub struct Player {
     alloc: Global,
@@ -21,20 +16,10 @@ pub struct Player {
     ghost sound: { IsSound table } by { Prim.hlevel props },
 }
 
-/// The most readers of a lock.
-fn most_readers(n: Option<u64>) -> u64
-    ensures { result ≡ most_readers n }
-{
-    match n {
-        None => MAX_READERS,
-        Some(n) => n,
-    }
-}
-
 impl Player {
     ghost use Rattle.std.specs.Prelude.{◌≡◌, [], ◌∷◌, IfOk, OnErr, IsOk, MatchOption};
-    ghost use Rattle.band_play.specs.Step.{step};
-    ghost use Rattle.band_play.specs.Player.{StandsFor, Follows, Works, Stays, KeepsLaws, TakesNoMemory, ForReaders, wakers_left};
+    ghost use Rattle.band_play.specs.Player.{StandsFor, Follows, Works, Stays, KeepsLaws, TakesNoMemory, wakers_left};
+    ghost use Rattle.band_script.specs.Call.{ForReaders};
 
     /// No name.
     pub fn new(alloc: Global) -> Player
@@ -57,10 +42,10 @@ impl Player {
         requires quiet { wakers_left self.old ≡ [] }
         // A lock is made for one reader at least.
         requires readers { ForReaders call.now }
-        ensures follows { IfOk result (λ reply. Follows (step call.now) self.old reply self.new) }
+        ensures follows { IfOk result (λ reply. Follows call.now self.old reply self.new) }
         ensures err { OnErr result (Stays self.old self.new × (wakers_left self.new ≡ [])) }
         // Want of memory comes in the place of neither a refusal nor `none`.
-        ensures works { OnErr result (Works (step call.now) self.old) }
+        ensures works { OnErr result (Works call.now self.old) }
         ensures succeeds { TakesNoMemory call.now → IsOk result }
         ensures lawful { KeepsLaws self.new }
     {
@@ -68,7 +53,7 @@ impl Player {
     }
 
     /// Runs one line of a script. A name that it makes is moved into the table.
-    #[tactic(auto, using(crate::proofs::StoodLawful::keeps_laws))]
+    #[tactic(auto, using(crate::proofs::Lawful::keeps_laws))]
     pub(crate) fn run<L: Ledger>(
         &mut self,
         call: Call,
@@ -76,19 +61,16 @@ impl Player {
     ) -> Result<Reply, AllocError>
         requires quiet { wakers_left self.old ≡ [] }
         requires readers { ForReaders call }
-        ensures follows { IfOk result (λ reply. Follows (step call) self.old reply self.new) }
+        ensures follows { IfOk result (λ reply. Follows call self.old reply self.new) }
         ensures err { OnErr result (Stays self.old self.new × (wakers_left self.new ≡ [])) }
-        ensures works { OnErr result (Works (step call) self.old) }
+        ensures works { OnErr result (Works call self.old) }
         ensures succeeds { TakesNoMemory call → IsOk result }
         ensures lawful { KeepsLaws self.new }
     {
         match call {
             Call::Sem { made, n } => self.table.make(self.alloc, made, New::Semaphore(n)),
             Call::Mutex { made } => self.table.make(self.alloc, made, New::Mutex),
-            Call::Rw { made, n } => {
-                let max = most_readers(n);
-                self.table.make(self.alloc, made, New::ReaderWriter(max))
-            }
+            Call::Rw { made, n } => self.table.make(self.alloc, made, New::ReaderWriter(n)),
             Call::Ask { made, of, n, waker } => {
                 self.table
                     .ask(Want::Permits(n), made, &of, Waker(waker), steps)

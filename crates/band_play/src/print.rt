@@ -1,6 +1,7 @@
 //! The lines of a transcript.
 ghost use Rattle.std.specs.Prelude.{◌≡◌, [], ◌∷◌, ◌++◌, OnOk, string_bytes};
-ghost use Rattle.band_play.specs.Text.{fault_text, refusal_word, reply_text, wake_line};
+ghost use Rattle.band_play.specs.Text.{fault_text};
+ghost use Rattle.band_rules.specs.Text.{refusal_word, reply_text, wake_line};
 
 use crate::{PlayFault, Reply};
 use band_base::Waker;

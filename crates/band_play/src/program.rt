@@ -1,7 +1,7 @@
 //! The program over its words, a source and two sinks.
 ghost use Rattle.std.specs.Prelude.{◌≡◌, ◌≢◌, ◌↔◌, ◌⊎◌, ℕ, ◌+◌, ◌≤◌, [], ◌∷◌, ◌++◌, codes, map, string_bytes, IsTrue, Err};
 ghost use Rattle.band_base.specs.Device.{Rose, AppendsPrefix};
-ghost use Rattle.band_play.specs.Script.{Good, Malformed, TooLong};
+ghost use Rattle.band_rules.specs.Script.{Good, Malformed, TooLong};
 ghost use Rattle.band_play.specs.Play.{Comes, AllRead, Takes, TakesJust, StopsEarly, WritesFront, KeepsUp, CompletesAs, Told, ToldText, ToldWith, IsStatus, status_of, program_limit};
 ghost use Rattle.band_play.specs.Text.{fault_text};
 

@@ -32,7 +32,8 @@ impl Model for Request {
 impl Request {
     ghost use Rattle.std.specs.Prelude.{◌≡◌};
     ghost use Rattle.band_sem.specs.Semaphore.{IsOwn, cancelled};
-    ghost use Rattle.band_play.specs.Objects.{shares_of, asked_of, IsSteady, Fits};
+    ghost use Rattle.band_play.specs.Objects.{shares_of, asked_of, IsSteady};
+    ghost use Rattle.band_balance.specs.Rule.{Fits};
     ghost use Rattle.band_play.specs.Moves.{PollsAs};
 
     /// The number of its object.

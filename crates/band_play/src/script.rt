@@ -2,7 +2,7 @@
 ghost use Rattle.std.specs.Prelude.{◌≡◌, ℕ, ◌+◌, ◌<◌, ◌≤◌, [], take, length, OnOk, OnErr, IfOk, Err};
 ghost use Rattle.std.specs.Io.KnownBytes.{Consumes, Keeps, IsAtEnd};
 ghost use Rattle.band_base.specs.Device.{Rose};
-ghost use Rattle.band_play.specs.Script.{Good, Malformed, TooLong};
+ghost use Rattle.band_rules.specs.Script.{Good, Malformed, TooLong};
 ghost use Rattle.band_play.specs.Play.{Comes, AllRead, Takes, TakesJust, StopsEarly, WritesFront, KeepsUp, Completes};
 ghost use Rattle.band_play.specs.Answers.{Answers};
 

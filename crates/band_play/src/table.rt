@@ -1,11 +1,10 @@
 //! What the player keeps: the names, and the objects by place.
-ghost use Rattle.std.specs.Prelude.{◌≡◌, ℕ, ◌+◌, ◌≤◌, [], OnOk, IfOk, IsOk, OnErr, IfNone, IfSome, MatchOption, MatchResult, ◌∷◌, ◌<◌, length, None, Some, Ok, Err};
-ghost use Rattle.band_balance.specs.Object.{Permit, Write};
-ghost use Rattle.band_play.specs.Step.{making, asking, polling, dropping, trying, releasing, reducing, draining, showing, forgetting, splitting, merging, downgrading};
-ghost use Rattle.band_play.specs.State.{standing};
+ghost use Rattle.std.specs.Prelude.{◌≡◌, ◌∷◌, [], IfOk, OnErr, MatchOption};
+ghost use Rattle.band_script.specs.Call.{ForReaders};
+ghost use Rattle.band_script.specs.declared.call.Call.TheVariants as calls;
 ghost use Rattle.band_play.specs.Names.{thing_at};
-ghost use Rattle.band_play.specs.Moves.{PollsName, IsFit, mode_of, size_for, object_of, offering, held_as, mergeable, CanGrow, Grows, Downgrades, IsForReaders, object_made};
-ghost use Rattle.band_play.specs.Kept.{StandsFor, IsSound, Follows, Works, Stays, Remains, wakes_left};
+ghost use Rattle.band_play.specs.Moves.{mode_of, object_place, offering, mergeable, make_call, ask_call, try_call};
+ghost use Rattle.band_play.specs.Kept.{StandsFor, IsSound, Follows, Works, Stays, wakes_left};
 
 use crate::names::Names;
 use crate::object::{New, Object, Want};
@@ -20,19 +19,6 @@ pub(crate) struct Table {
     names: Names,
     objects: Vec<Object>,
     last: u64,
-}
-
-/// The place of the object with this name, of which this can be asked.
-fn object_for(names: &Names, objects: &Vec<Object>, name: &Name, want: Want) -> Result<u64, Refusal>
-    requires { (place : ℕ) → object_of (thing_at names.now name.now) ≡ Ok place → place < length objects.now.items }
-    ensures { result ≡ offering (mode_of want) objects.now.items (object_of (thing_at names.now name.now)) }
-{
-    let place = names.object_at(name)?;
-    if objects[place as usize].offers(want) {
-        Ok(place)
-    } else {
-        Err(Refusal::Kind)
-    }
 }
 
 /// The place of the object of two permits that can become one.
@@ -62,14 +48,27 @@ impl Table {
         }
     }
 
+    /// The place of the object with this name, of which this can be asked.
+    fn object_for(&self, name: &Name, want: Want) -> Result<u64, Refusal>
+        requires { IsSound self.now }
+        ensures { result ≡ offering (mode_of want) self.now.objects.items (object_place (thing_at self.now.names name.now)) }
+    {
+        let place = self.names.object_at(name)?;
+        if self.objects[place as usize].offers(want) {
+            Ok(place)
+        } else {
+            Err(Refusal::Kind)
+        }
+    }
+
     /// Makes an object.
     pub(crate) fn make(&mut self, alloc: Global, made: Name, new: New) -> Result<Reply, AllocError>
         requires sound { IsSound self.old }
         requires quiet { wakes_left self.old ≡ [] }
-        requires readers { IsForReaders new }
-        ensures follows { IfOk result (λ reply. Follows (making made (object_made new)) self.old reply self.new) }
-        ensures err { OnErr result (Stays self.old self.new) }
-        ensures works { OnErr result (Works (making made (object_made new)) self.old) }
+        requires readers { ForReaders (make_call new made) }
+        ensures follows { IfOk result (λ reply. Follows (make_call new made) self.old reply self.new) }
+        ensures err { OnErr result (Stays self.old self.new × (wakes_left self.new ≡ [])) }
+        ensures works { OnErr result (Works (make_call new made) self.old) }
         ensures sound { IsSound self.new }
     {
         if self.names.is_live(&made) {
@@ -93,12 +92,12 @@ impl Table {
     ) -> Result<Reply, AllocError>
         requires sound { IsSound self.old }
         requires quiet { wakes_left self.old ≡ [] }
-        ensures follows { IfOk result (λ reply. Follows (λ state. asking (mode_of want) (size_for want) (standing of.now state) made waker.0 state) self.old reply self.new) }
-        ensures err { OnErr result (Stays self.old self.new) }
-        ensures works { OnErr result (Works (λ state. asking (mode_of want) (size_for want) (standing of.now state) made waker.0 state) self.old) }
+        ensures follows { IfOk result (λ reply. Follows (ask_call want made of.now waker.0) self.old reply self.new) }
+        ensures err { OnErr result (Stays self.old self.new × (wakes_left self.new ≡ [])) }
+        ensures works { OnErr result (Works (ask_call want made of.now waker.0) self.old) }
         ensures sound { IsSound self.new }
     {
-        let place = match object_for(&self.names, &self.objects, of, want) {
+        let place = match self.object_for(of, want) {
             Ok(place) => place,
             Err(refusal) => return Ok(Reply::Refused(refusal)),
         };
@@ -120,7 +119,7 @@ impl Table {
     ) -> Reply
         requires sound { IsSound self.old }
         requires quiet { wakes_left self.old ≡ [] }
-        ensures follows { Follows (λ state. polling (standing name.now state) name.now waker.0 state) self.old result self.new }
+        ensures follows { Follows (calls.Poll name.now waker.0) self.old result self.new }
         ensures sound { IsSound self.new }
     {
         match self.names.poll(&mut self.objects, name, waker, steps) {
@@ -136,7 +135,7 @@ impl Table {
     pub(crate) fn drop_name<L: Ledger>(&mut self, name: &Name, steps: &mut Steps<L>) -> Reply
         requires sound { IsSound self.old }
         requires quiet { wakes_left self.old ≡ [] }
-        ensures follows { Follows (λ state. dropping (standing name.now state) name.now state) self.old result self.new }
+        ensures follows { Follows (calls.Drop name.now) self.old result self.new }
         ensures sound { IsSound self.new }
     {
         if self.names.is_object(name) {
@@ -154,12 +153,12 @@ impl Table {
     pub(crate) fn try_for(&mut self, want: Want, made: Name, of: &Name) -> Result<Reply, AllocError>
         requires sound { IsSound self.old }
         requires quiet { wakes_left self.old ≡ [] }
-        ensures follows { IfOk result (λ reply. Follows (λ state. trying (mode_of want) (size_for want) (standing of.now state) made state) self.old reply self.new) }
-        ensures err { OnErr result (Stays self.old self.new) }
-        ensures works { OnErr result (Works (λ state. trying (mode_of want) (size_for want) (standing of.now state) made state) self.old) }
+        ensures follows { IfOk result (λ reply. Follows (try_call want made of.now) self.old reply self.new) }
+        ensures err { OnErr result (Stays self.old self.new × (wakes_left self.new ≡ [])) }
+        ensures works { OnErr result (Works (try_call want made of.now) self.old) }
         ensures sound { IsSound self.new }
     {
-        let place = match object_for(&self.names, &self.objects, of, want) {
+        let place = match self.object_for(of, want) {
             Ok(place) => place,
             Err(refusal) => return Ok(Reply::Refused(refusal)),
         };
@@ -179,10 +178,10 @@ impl Table {
     pub(crate) fn release<L: Ledger>(&mut self, of: &Name, n: u64, steps: &mut Steps<L>) -> Reply
         requires sound { IsSound self.old }
         requires quiet { wakes_left self.old ≡ [] }
-        ensures follows { Follows (λ state. releasing (standing of.now state) n state) self.old result self.new }
+        ensures follows { Follows (calls.Release of.now n) self.old result self.new }
         ensures sound { IsSound self.new }
     {
-        let place = match object_for(&self.names, &self.objects, of, Want::Permits(n)) {
+        let place = match self.object_for(of, Want::Permits(n)) {
             Ok(place) => place,
             Err(refusal) => return Reply::Refused(refusal),
         };
@@ -203,12 +202,12 @@ impl Table {
     ) -> Result<Reply, AllocError>
         requires sound { IsSound self.old }
         requires quiet { wakes_left self.old ≡ [] }
-        ensures follows { IfOk result (λ reply. Follows (λ state. reducing (standing of.now state) n state) self.old reply self.new) }
-        ensures err { OnErr result (Stays self.old self.new) }
-        ensures works { OnErr result (Works (λ state. reducing (standing of.now state) n state) self.old) }
+        ensures follows { IfOk result (λ reply. Follows (calls.Reduce of.now n) self.old reply self.new) }
+        ensures err { OnErr result (Stays self.old self.new × (wakes_left self.new ≡ [])) }
+        ensures works { OnErr result (Works (calls.Reduce of.now n) self.old) }
         ensures sound { IsSound self.new }
     {
-        let place = match object_for(&self.names, &self.objects, of, Want::Permits(n)) {
+        let place = match self.object_for(of, Want::Permits(n)) {
             Ok(place) => place,
             Err(refusal) => return Ok(Reply::Refused(refusal)),
         };
@@ -225,10 +224,10 @@ impl Table {
     pub(crate) fn drain(&mut self, of: &Name, n: u64) -> Reply
         requires sound { IsSound self.old }
         requires quiet { wakes_left self.old ≡ [] }
-        ensures follows { Follows (λ state. draining (standing of.now state) n state) self.old result self.new }
+        ensures follows { Follows (calls.Drain of.now n) self.old result self.new }
         ensures sound { IsSound self.new }
     {
-        let place = match object_for(&self.names, &self.objects, of, Want::Permits(n)) {
+        let place = match self.object_for(of, Want::Permits(n)) {
             Ok(place) => place,
             Err(refusal) => return Reply::Refused(refusal),
         };
@@ -241,7 +240,7 @@ impl Table {
     pub(crate) fn status(&self, name: &Name) -> Reply
         requires sound { IsSound self.now }
         requires quiet { wakes_left self.now ≡ [] }
-        ensures { Follows (λ state. showing (standing name.now state) state) self.now result self.now }
+        ensures { Follows (calls.Status name.now) self.now result self.now }
     {
         let place = match self.names.object_at(name) {
             Ok(place) => place,
@@ -261,7 +260,7 @@ impl Table {
     pub(crate) fn forget(&mut self, name: &Name) -> Reply
         requires sound { IsSound self.old }
         requires quiet { wakes_left self.old ≡ [] }
-        ensures follows { Follows (λ state. forgetting (standing name.now state) name.now state) self.old result self.new }
+        ensures follows { Follows (calls.Forget name.now) self.old result self.new }
         ensures sound { IsSound self.new }
     {
         if let Err(refusal) = self.names.permit_at(name) {
@@ -278,9 +277,9 @@ impl Table {
     pub(crate) fn split(&mut self, name: &Name, made: Name, n: u64) -> Result<Reply, AllocError>
         requires sound { IsSound self.old }
         requires quiet { wakes_left self.old ≡ [] }
-        ensures follows { IfOk result (λ reply. Follows (λ state. splitting (standing name.now state) name.now made n state) self.old reply self.new) }
-        ensures err { OnErr result (Stays self.old self.new) }
-        ensures works { OnErr result (Works (λ state. splitting (standing name.now state) name.now made n state) self.old) }
+        ensures follows { IfOk result (λ reply. Follows (calls.Split name.now made n) self.old reply self.new) }
+        ensures err { OnErr result (Stays self.old self.new × (wakes_left self.new ≡ [])) }
+        ensures works { OnErr result (Works (calls.Split name.now made n) self.old) }
         ensures sound { IsSound self.new }
     {
         let permits = match self.names.permits(name) {
@@ -301,7 +300,7 @@ impl Table {
     pub(crate) fn merge(&mut self, kept: &Name, spent: &Name) -> Reply
         requires sound { IsSound self.old }
         requires quiet { wakes_left self.old ≡ [] }
-        ensures follows { Follows (λ state. merging (standing kept.now state) (standing spent.now state) kept.now spent.now state) self.old result self.new }
+        ensures follows { Follows (calls.Merge kept.now spent.now) self.old result self.new }
         ensures sound { IsSound self.new }
     {
         let place = match mergeable(&self.names, kept, spent) {
@@ -318,7 +317,7 @@ impl Table {
     pub(crate) fn downgrade<L: Ledger>(&mut self, name: &Name, steps: &mut Steps<L>) -> Reply
         requires sound { IsSound self.old }
         requires quiet { wakes_left self.old ≡ [] }
-        ensures follows { Follows (λ state. downgrading (standing name.now state) name.now state) self.old result self.new }
+        ensures follows { Follows (calls.Downgrade name.now) self.old result self.new }
         ensures sound { IsSound self.new }
     {
         if let Err(refusal) = self.names.writer_at(name) {
@@ -334,7 +333,7 @@ impl Table {
         ensures woken { MatchOption result
             ((wakes_left self.old ≡ []) × (wakes_left self.new ≡ []))
             (λ waker. wakes_left self.old ≡ waker.0 ∷ wakes_left self.new) }
-        ensures state { Remains self.old self.new }
+        ensures state { Stays self.old self.new }
         ensures sound { IsSound self.new }
     {
         let last = self.last as usize;

@@ -97,7 +97,8 @@ pub(crate) fn first_poll<L: Ledger>(
 }
 
 impl Token {
-    ghost use Rattle.band_play.specs.Moves.{IsFit, PollsThing, DropsThing, place_at, held_as, HeldAt};
+    ghost use Rattle.band_play.specs.Moves.{IsFit, PollsThing, DropsThing, held_as, HeldAt};
+    ghost use Rattle.band_play.specs.Thing.{place_at};
 
     /// A request that has ended.
     pub(crate) fn ended() -> Token

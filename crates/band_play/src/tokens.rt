@@ -7,7 +7,7 @@ ghost use Rattle.band_balance.specs.Object.{Permit};
 ghost use Rattle.band_play.specs.Apart.{at, Sets};
 ghost use Rattle.band_sem.specs.Semaphore.{taken};
 ghost use Rattle.band_play.specs.Objects.{on_semaphore, IsSteady};
-ghost use Rattle.band_play.specs.Step.{is_of};
+ghost use Rattle.band_balance.specs.Object.{is_of};
 ghost use Rattle.band_play.specs.Token.{Holding as TheHolding, TokenState, thing_of};
 ghost use Rattle.band_play.specs.Moves.{AsksFirst, IsOffered, mode_of, size_for};
 ghost use Rattle.band_play.specs.Tokens.{LendsToken};

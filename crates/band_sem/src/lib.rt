@@ -7,14 +7,13 @@ mod errors;
 mod permit;
 mod place;
 mod queue;
-mod refusal;
 mod semaphore;
 mod store;
 
 pub use acquire::Acquire;
+pub use band_base::Refusal;
 pub use errors::{MergeError, ReduceError, ReleaseError};
 pub use permit::SemaphorePermit;
-pub use refusal::Refusal;
 pub use semaphore::Semaphore;
 
 #[cfg(test)]

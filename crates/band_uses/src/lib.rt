@@ -1,6 +1,7 @@
 //! The callers that the documents show, each proved from the public contracts alone.
 #![tactic(auto)]
 
+pub mod channels;
 pub mod counter;
 pub mod devices;
 pub mod lines;
@@ -9,4 +10,5 @@ pub mod places;
 pub mod refusals;
 pub mod scripts;
 pub mod semaphores;
+pub mod waiters;
 pub mod wakers;

@@ -1,7 +1,6 @@
 //! A call of a script.
 ghost use Rattle.std.specs.Prelude.{◌≡◌, [], IfOk};
 ghost use Rattle.band_play.specs.Player.{Follows, ForReaders, wakers_left};
-ghost use Rattle.band_play.specs.Step.{step};
 
 use band_base::Steps;
 use band_play::{Call, Player, Reply};
@@ -16,7 +15,7 @@ pub fn run_call<L: Ledger>(
 ) -> Result<Reply, AllocError>
     requires quiet { wakers_left player.old ≡ [] }
     requires readers { ForReaders call.now }
-    ensures { IfOk result (λ reply. Follows (step call.now) player.old reply player.new) }
+    ensures { IfOk result (λ reply. Follows call.now player.old reply player.new) }
 {
     player.step(call, steps)
 }

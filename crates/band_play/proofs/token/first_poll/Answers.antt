@@ -3,13 +3,14 @@ use Rattle.std.specs.List.{slice_get, slice_set}
 use Rattle.std.proofs.lemmas.Option.{slice_get_read}
 use Rattle.band_base.specs.declared.poll.Poll.TheVariants as polls
 use Rattle.band_sem.specs.Request.{NotPolled}
-use Rattle.band_play.specs.Objects.{RequestState, Fits}
-use Rattle.band_play.specs.declared.reply.Reply.TheVariants as replies
+use Rattle.band_play.specs.Objects.{RequestState}
+use Rattle.band_balance.specs.Rule.{Fits}
+use Rattle.band_rules.specs.declared.reply.Reply.TheVariants as replies
 use Rattle.band_play.specs.Thing as things
 use Rattle.band_play.specs.Token.{TokenState, thing_of}
 use Rattle.band_play.specs.Moves.{PollsAs, IsAnswered, kind_at, mode_of, size_for}
-use Rattle.band_play.proofs.Called.{set_itself}
-use Rattle.band_play.proofs.Follow.{want_fits, unmoved, polled_of, ready_answered, pending_answered}
+use Rattle.band_play.proofs.Lists.{set_itself}
+use Rattle.band_play.proofs.Polled.{want_fits, unmoved, polled_of, ready_answered, pending_answered}
 use Rattle.band_play.proofs.token.first_poll.Goals as goal
 
 pub poll_once-requires-clause-fits : goal.poll_once-requires-clause-fits

@@ -61,7 +61,7 @@ pub returns-in-Downgrade-clause-follows : goal.returns-in-Downgrade-clause-follo
 returns-in-Downgrade-clause-follows g c = rw c.in-Downgrade.is c.downgrade.ensures.follows
 
 pub returns-in-Rw-clause-follows : goal.returns-in-Rw-clause-follows
-returns-in-Rw-clause-follows g c = rw (c.in-Rw.is, ← c.most_readers-max.ensures) c.make-in-Rw.ensures.follows
+returns-in-Rw-clause-follows g c = rw c.in-Rw.is c.make-in-Rw.ensures.follows
 
 pub returns-in-Sem-clause-works : goal.returns-in-Sem-clause-works
 returns-in-Sem-clause-works g c = rw c.in-Sem.is c.make.ensures.works
@@ -100,4 +100,4 @@ pub returns-in-TryWrite-clause-works : goal.returns-in-TryWrite-clause-works
 returns-in-TryWrite-clause-works g c = rw c.in-TryWrite.is c.try_for-in-TryWrite.ensures.works
 
 pub returns-in-Rw-clause-works : goal.returns-in-Rw-clause-works
-returns-in-Rw-clause-works g c = rw (c.in-Rw.is, ← c.most_readers-max.ensures) c.make-in-Rw.ensures.works
+returns-in-Rw-clause-works g c = rw c.in-Rw.is c.make-in-Rw.ensures.works

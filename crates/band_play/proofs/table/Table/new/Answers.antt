@@ -1,15 +1,20 @@
-use Rattle.std.proofs.Common.{[], sym, subst}
+use Rattle.std.proofs.Common.{[], ap, length, sym, ◌∙◌, subst}
 use Rattle.std.proofs.lemmas.Option.{none-some}
-use Rattle.band_play.specs.Names.{thing_at}
+use Rattle.band_balance.specs.Object.{Permit, tag}
 use Rattle.band_play.specs.Kept.{OthersQuiet}
-use Rattle.band_play.proofs.TableLemmas.{stands_nowhere}
 use Rattle.band_play.proofs.table.Table.new.Goals as goal
 
 pub returns-clause-start : goal.returns-clause-start
-returns-clause-start c = stands_nowhere (thing_at c.new.result) c.new-2.result.items c.new.ensures c.new-2.ensures.items
+returns-clause-start c = record {
+  tags = λ place slot. tag Permit [];
+  under = record {
+    order = record { differ = tt; sound = tt };
+    size = ap length c.new-2.ensures.items;
+    each = λ place object named at there. absurd (none-some named there);
+    there = λ name thing is. absurd (none-some thing (sym (c.new.ensures name) ∙ is));
+  };
+  others = subst (OthersQuiet 0) (sym c.new-2.ensures.items) (λ place object apart there. absurd (none-some object there));
+}
 
 pub returns-clause-sound : goal.returns-clause-sound
-returns-clause-sound c = record {
-  stood = ∣ ([], returns-clause-start c) ∣₁;
-  others = subst (λ sems. OthersQuiet 0 sems) (sym c.new-2.ensures.items) (λ place sem apart there. absurd (none-some sem there));
-}
+returns-clause-sound c = ∣ ([], returns-clause-start c) ∣₁

@@ -3,8 +3,8 @@ use Rattle.std.specs.List.{slice_get, slice_set}
 use Rattle.std.proofs.lemmas.Option.{slice_get_read, slice_get_within}
 use Rattle.band_play.specs.Objects.{ObjectState, IsSteady, of_kind}
 use Rattle.band_play.specs.Token.{TokenState, thing_of}
-use Rattle.band_play.specs.Moves.{IsFit, FitsRequest, Becomes, DropsThing, cancelled_at}
-use Rattle.band_play.proofs.Follow.{there_of}
+use Rattle.band_play.specs.Moves.{IsFit, FitsRequest, Changes, DropsThing, cancelled_at}
+use Rattle.band_play.proofs.Polled.{there_of}
 use Rattle.band_play.proofs.token.Token.drop_from.Goals as goal
 
 pub returns-in-Request : goal.returns-in-Request
@@ -19,7 +19,7 @@ returns-in-Request g c =
     let within : place < length objects = slice_get_within objects place known.0 known.1 in
     let there : slice_get objects place ≡ Some sem = slice_get_read objects _ place sem refl within c.index_mut-in-Request.ensures.value in
     let after : c.cancel.new.object ≡ cancelled_at request.stage sem = ap₂ of_kind c.cancel.ensures.kind c.cancel.ensures.state in
-    let becomes : Becomes place objects (slice_set objects place c.cancel.new.object) (cancelled_at request.stage) =
+    let becomes : Changes place objects (slice_set objects place c.cancel.new.object) (cancelled_at request.stage) =
     record {
       before = sem;
       there = there;
@@ -27,4 +27,4 @@ returns-in-Request g c =
       lawful = subst (λ (s : ObjectState). IsSteady s) after c.cancel.ensures.steady;
     } in
     subst (λ (t : TokenState). DropsThing (thing_of t) objects (slice_set objects place c.cancel.new.object)) c.in-Request.ensures
-    (subst (λ (k : ℕ). Becomes k objects (slice_set objects place c.cancel.new.object) (cancelled_at request.stage)) c.of-place.ensures becomes)
+    (subst (λ (k : ℕ). Changes k objects (slice_set objects place c.cancel.new.object) (cancelled_at request.stage)) c.of-place.ensures becomes)

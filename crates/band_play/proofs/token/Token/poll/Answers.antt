@@ -1,11 +1,11 @@
 use Rattle.std.proofs.Common.{◌≡◌, ◌<◌, ℕ, Some, Ok, length, refl, sym, ap, ◌∙◌, subst}
 use Rattle.std.specs.List.{slice_get, slice_set}
 use Rattle.std.proofs.lemmas.Option.{slice_get_read, slice_get_within}
-use Rattle.band_play.specs.declared.reply.Reply.TheVariants as replies
+use Rattle.band_rules.specs.declared.reply.Reply.TheVariants as replies
 use Rattle.band_play.specs.Thing as things
 use Rattle.band_play.specs.Token.{TokenState, thing_of}
 use Rattle.band_play.specs.Moves.{IsFit, FitsRequest, IsAnswered, PollsRequest, PollsThing}
-use Rattle.band_play.proofs.Follow.{there_of, polled_of, pending_answered}
+use Rattle.band_play.proofs.Polled.{there_of, polled_of, pending_answered}
 use Rattle.band_play.proofs.token.Token.poll.Goals as goal
 
 pub returns-in-Ok-Pending : goal.returns-in-Ok-Pending

@@ -1,0 +1,53 @@
+//! Laws of an object: what each rule that is allowed does to it. Names are bytes.
+ghost use Rattle.std.specs.Prelude.{◌≡◌, List, [], ℕ, true, false, map, pos, ◌+ℤ◌};
+ghost use Rattle.std.specs.Str.{bytes_eq};
+ghost use Rattle.band_balance.specs.Object.{Object, Tag};
+ghost use Rattle.band_balance.specs.Rule.{Rule, IsAllowed, act, brought, removed, gives_back};
+ghost use Rattle.band_balance.specs.Laws.{permits, LetsIn, IsOrderly, IsWithin, KeepsShares, IsExclusive, granted_between, GrantsAFront};
+
+/// What is free, granted and held of an object adds up with what the rule brings and what it takes away for good.
+pub fn permits_add_up()
+    ensures { (rule : Rule (List ℕ)) → (object : Object (Tag (List ℕ))) → IsAllowed bytes_eq rule object → LetsIn object.kind
+        → permits (act bytes_eq rule object).object +ℤ pos (removed bytes_eq rule object) ≡ permits object +ℤ pos (brought rule) }
+{}
+
+/// The first that waits waits for more than is free, a name has one request at most, and each entry is one that can be asked for.
+pub fn rules_keep_order()
+    ensures { (rule : Rule (List ℕ)) → (object : Object (Tag (List ℕ))) → IsAllowed bytes_eq rule object
+        → IsOrderly bytes_eq object → IsOrderly bytes_eq (act bytes_eq rule object).object }
+{}
+
+/// What is granted and held stays within the largest count, and so does what is owed.
+pub fn rules_keep_bounds()
+    ensures { (rule : Rule (List ℕ)) → (object : Object (Tag (List ℕ))) → IsAllowed bytes_eq rule object → LetsIn object.kind
+        → IsWithin object → IsWithin (act bytes_eq rule object).object }
+{}
+
+/// Nothing is owed of a lock, and it has all of its shares.
+pub fn rules_keep_shares()
+    ensures { (rule : Rule (List ℕ)) → (object : Object (Tag (List ℕ))) → IsAllowed bytes_eq rule object → LetsIn object.kind
+        → KeepsShares object → KeepsShares (act bytes_eq rule object).object }
+{}
+
+/// So a write that is granted or held is the only entry that is, and of a mutex there is one at most.
+pub fn who_writes_is_alone()
+    ensures { (object : Object (Tag (List ℕ))) → LetsIn object.kind → IsOrderly bytes_eq object → KeepsShares object → IsExclusive object }
+{}
+
+/// A rule wakes those that waited before it and are granted after it, in order, each by the waker that it left last.
+pub fn rules_wake_the_granted()
+    ensures { (rule : Rule (List ℕ)) → (object : Object (Tag (List ℕ))) → IsAllowed bytes_eq rule object → IsOrderly bytes_eq object
+        → (act bytes_eq rule object).woken ≡ map (λ w. w.waker) (granted_between bytes_eq object.line (act bytes_eq rule object).object.line) }
+{}
+
+/// A rule wakes nobody, unless something comes back or a request leaves.
+pub fn only_giving_back_wakes_anybody()
+    ensures { (rule : Rule (List ℕ)) → (object : Object (Tag (List ℕ))) → IsAllowed bytes_eq rule object → IsOrderly bytes_eq object
+        → gives_back rule ≡ false → (act bytes_eq rule object).woken ≡ [] }
+{}
+
+/// And then a front of those that waited is granted, and nobody while permits are owed.
+pub fn rules_grant_a_front()
+    ensures { (rule : Rule (List ℕ)) → (object : Object (Tag (List ℕ))) → IsAllowed bytes_eq rule object → IsOrderly bytes_eq object
+        → gives_back rule ≡ true → GrantsAFront bytes_eq object.line (act bytes_eq rule object).object.line }
+{}

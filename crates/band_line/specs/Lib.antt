@@ -1,0 +1,13 @@
+pub mod Arena
+pub mod ArenaLends
+pub mod Line
+pub mod LineLends
+pub mod Link
+pub mod Links
+pub mod NodeLends
+pub mod Slots
+pub mod Visits
+pub mod WaitList
+pub mod WaitListLends
+pub mod WakerSet
+pub mod Wakers

@@ -1,0 +1,52 @@
+-- How an arena keeps its slots. No public clause cites this page.
+use Rattle.std.specs.Prelude.{◌≡◌, ℕ, zero, suc, ◌+◌, ◌-◌, ◌≤◌, List, [], ◌∷◌, map, length, filter_map, Option, Some, None, IsSome, unwrap_or, slice_index_or}
+use Rattle.band_line.specs.Link.{slot_limit}
+use Rattle.band_line.specs.Arena.{ArenaState}
+use Rattle.band_line.specs.declared.arena.Slot.{Slot}
+use Rattle.band_line.specs.declared.arena.Slot.TheVariants.{Vacant, Occupied}
+
+-- the first so many slots of a chain, where `next` tells the slot after each
+abbrev pub chain : (ℕ → Option (Option ℕ)) → ℕ → Option ℕ → List ℕ
+chain next zero first = []
+chain next (suc count) None = []
+chain next (suc count) (Some id) = id ∷ chain next count (unwrap_or (next id) None)
+
+-- from the first on, each of these slots tells the next, and the last tells none
+abbrev pub IsChain : (ℕ → Option (Option ℕ)) → Option ℕ → List ℕ → Type 0
+IsChain next first [] = first ≡ None
+IsChain next first (id ∷ rest) =
+    (first ≡ Some id) × IsSome (next id) × IsChain next (unwrap_or (next id) None) rest
+
+module _ {T : Type 0} where
+  -- what a slot has
+  abbrev pub value_of : Slot T → Option T
+  value_of (Vacant next) = None
+  value_of (Occupied value) = Some value
+
+  abbrev pub values_of : List (Slot T) → List T
+  values_of slots = filter_map (λ slot. slot) (map value_of slots)
+
+  -- where a slot is vacant, the one that was vacated before it
+  abbrev pub next_of : Slot T → Option (Option ℕ)
+  next_of (Vacant next) = Some next
+  next_of (Occupied value) = None
+
+  abbrev pub next_at : List (Slot T) → ℕ → Option (Option ℕ)
+  next_at slots id = slice_index_or (map next_of slots) id None
+
+  -- the vacant slots, of which there are all but `len`
+  abbrev pub vacated_of : List (Slot T) → ℕ → Option ℕ → List ℕ
+  vacated_of slots len first = chain (next_at slots) (length slots - len) first
+
+  abbrev pub state_of : List (Slot T) → ℕ → ℕ → Option ℕ → ArenaState T
+  state_of slots capacity len first = record {
+    slots = map value_of slots;
+    vacated = vacated_of slots len first;
+    spare = capacity - len;
+  }
+
+  pub record IsArena (slots : List (Slot T)) (capacity len : ℕ) (first : Option ℕ) : Type 0 where
+    pub counted : len ≡ length (values_of slots)
+    pub chained : IsChain (next_at slots) first (vacated_of slots len first)
+    pub all : len + length (vacated_of slots len first) ≡ length slots
+    pub numbered : capacity ≤ slot_limit

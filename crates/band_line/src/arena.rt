@@ -1,0 +1,265 @@
+//! The arena: values in slots whose numbers stay theirs.
+ghost use Rattle.std.specs.Prelude.{◌≡◌, ◌≢◌, ℕ, ◌+◌, ◌-◌, ◌<◌, ◌≤◌, ◌↔◌, Some, None, length, option_copied, IsTrue, IsSome, is_some, IsOk, IsErr, OnOk, OnErr, IfOk};
+ghost use Rattle.std.specs.Option.{option_copied_mut};
+ghost use Rattle.std.specs.Borrow.{sem, Lends};
+ghost use Rattle.band_line.specs.Arena.{IsRewritten, with_value, empty_arena, value_at, KeepsValues, KeepsOthers, values, occupied_len, next_slot, inserted, removed, with_room};
+ghost use Rattle.band_line.specs.Link.{slot_limit};
+ghost use Rattle.band_line.specs.Slots.{value_of};
+
+use crate::link::Link;
+use crate::{ArenaIter, SlotId};
+use band_base::Steps;
+use std::alloc::{AllocError, Global};
+use std::marker::Model;
+use std::mem;
+use std::sync::ledger::Ledger;
+
+/// Values in slots, each found by the number of its slot. A slot that was vacated is given again, the latest first.
+/// Ports `Arena`.
+#[derive(Drop)]
+pub struct Arena<T> {
+    slots: Vec<Slot<T>>,
+    /// The slot that was vacated last.
+    vacant: Link,
+    len: u32,
+}
+
+#[derive(Drop)]
+pub(crate) enum Slot<T> {
+    /// With the slot that was vacated before it, if that is vacant still.
+    Vacant(Link),
+    Occupied(T),
+}
+
+const _: () = prove!(size_of::<Arena<u64>>() == 32);
+
+const _: () = prove!(size_of::<Slot<u64>>() == 16);
+
+impl<T> Model for Arena<T> {
+    ghost use Rattle.std.specs.Prelude.{vec_capacity};
+    ghost use Rattle.band_line.specs.Arena.{ArenaState};
+
+    ghost Value = { ArenaState T };
+
+    ghost use Rattle.band_line.specs.Slots.{state_of, IsArena};
+
+    ghost view = { λ arena. state_of arena.slots.items (vec_capacity arena.slots) arena.len arena.vacant };
+
+    ghost invariant = { λ arena.
+        IsArena arena.slots.items (vec_capacity arena.slots) arena.len arena.vacant };
+}
+
+impl<T> Slot<T> {
+    ghost use Rattle.band_line.specs.contracts.arena.Slot.{the_row};
+
+    fn value_mut(&mut self) -> &mut T
+        requires { IsSome (value_of self.old) }
+        ensures* lends { sem 𝓛 (Lends (the_row T.row) T.row self.entry result Slot.Occupied) }
+        ensures value { value_of self.old ≡ Some result.now }
+    {
+        match self {
+            Slot::Occupied(value) => value,
+            Slot::Vacant(_) => unreachable!(),
+        }
+    }
+}
+
+impl<T> Arena<T> {
+    ghost use Rattle.band_line.specs.ArenaLends.{lends_value, lends_occupied};
+
+    /// An arena without slots, which takes no memory before the first `reserve`.
+    pub fn new(alloc: Global) -> Arena<T>
+        ensures { result ≡ empty_arena }
+    {
+        Arena {
+            slots: Vec::new(alloc),
+            vacant: Link::none(),
+            len: 0,
+        }
+    }
+
+    /// An arena without slots, with room for `n` values.
+    pub fn with_capacity(alloc: Global, n: u64) -> Result<Arena<T>, AllocError>
+        ensures empty { IfOk result (λ arena. arena ≡ with_room arena.spare empty_arena) }
+        ensures room { IfOk result (λ arena. n ≤ arena.spare) }
+        ensures limit { slot_limit < n → IsErr result }
+    {
+        if n > SlotId::LIMIT {
+            return Err(AllocError);
+        }
+        Ok(Arena {
+            slots: Vec::with_capacity(alloc, n as usize)?,
+            vacant: Link::none(),
+            len: 0,
+        })
+    }
+
+    /// Makes room, so that `n` inserts need no memory. Where it must grow, it grows at least twofold,
+    /// up to the most slots that there may be.
+    pub fn reserve(&mut self, n: u64) -> Result<(), AllocError>
+        ensures same { self.new ≡ with_room self.new.spare self.old }
+        ensures room { OnOk result (n ≤ self.new.spare) }
+        ensures no_less { self.old.spare ≤ self.new.spare }
+        ensures err { OnErr result (self.new ≡ self.old) }
+        ensures enough { n ≤ self.old.spare → IsOk result }
+        ensures limit { slot_limit < occupied_len self.old + n → IsErr result }
+    {
+        let capacity = self.slots.capacity();
+        let len = u64::from(self.len);
+        if n <= capacity as u64 - len {
+            return Ok(());
+        }
+        if n > SlotId::LIMIT - len {
+            return Err(AllocError);
+        }
+        let wanted = (len + n).max(2 * capacity as u64).min(SlotId::LIMIT);
+        self.slots.reserve_exact(wanted as usize - self.slots.len())
+    }
+
+    /// How many inserts need no memory.
+    pub fn spare(&self) -> u64
+        ensures spare { result ≡ self.now.spare }
+        ensures limit { occupied_len self.now + result ≤ slot_limit }
+    {
+        self.slots.capacity() as u64 - u64::from(self.len)
+    }
+
+    /// How many values there are.
+    pub fn len(&self) -> u64
+        ensures { result ≡ occupied_len self.now }
+    {
+        u64::from(self.len)
+    }
+
+    /// Whether there is no value.
+    pub fn is_empty(&self) -> bool
+        ensures { IsTrue result ↔ (occupied_len self.now ≡ 0) }
+    {
+        self.len == 0
+    }
+
+    /// Puts a value into a slot, in room that was reserved.
+    pub fn insert<L: Ledger>(&mut self, value: T, steps: &mut Steps<L>) -> SlotId
+        requires { 0 < self.old.spare }
+        ensures slot { result ≡ next_slot self.old }
+        ensures state { self.new ≡ inserted value self.old }
+        ensures vacant { value_at result self.old ≡ None }
+        ensures here { value_at result self.new ≡ Some value }
+        ensures others { KeepsOthers result self.old self.new }
+        ensures keeps { KeepsValues self.old self.new }
+        ensures len { occupied_len self.new ≡ occupied_len self.old + 1 }
+        ensures visits { steps.new ≡ steps.old + 1 }
+    {
+        steps.tick();
+        self.len += 1;
+        match self.vacant.get() {
+            Some(id) => {
+                match mem::replace(&mut self.slots[id.index()], Slot::Occupied(value)) {
+                    Slot::Vacant(next) => self.vacant = next,
+                    Slot::Occupied(_) => unreachable!(),
+                }
+                id
+            }
+            None => {
+                let id = SlotId::at(self.slots.len() as u32);
+                self.slots.push_reserved(Slot::Occupied(value));
+                id
+            }
+        }
+    }
+
+    /// The value in a slot, if there is one.
+    pub fn get<L: Ledger>(&self, id: SlotId, steps: &mut Steps<L>) -> Option<&T>
+        ensures value { option_copied result ≡ value_at id self.now }
+        ensures visits { steps.new ≡ steps.old + 1 }
+    {
+        steps.tick();
+        match self.slots.get(id.index()) {
+            Some(Slot::Occupied(value)) => Some(value),
+            _ => None,
+        }
+    }
+
+    /// The value in a slot for writing, if there is one.
+    pub fn get_mut<L: Ledger>(&mut self, id: SlotId, steps: &mut Steps<L>) -> Option<&mut T>
+        ensures* writes_back { sem 𝓛 (lends_value T.row self.entry id result) }
+        ensures value { option_copied_mut result ≡ value_at id self.old }
+        ensures written { IsSome (value_at id self.old) → (last : T) →
+            IsRewritten id last self.old (with_value id last self.old) }
+        ensures visits { steps.new ≡ steps.old + 1 }
+    {
+        if self.get(id, steps).is_some() {
+            Some(self.value_mut(id))
+        } else {
+            None
+        }
+    }
+
+    /// The value in a slot that has one, for writing.
+    pub(crate) fn occupied_mut<L: Ledger>(&mut self, id: SlotId, steps: &mut Steps<L>) -> &mut T
+        requires { IsSome (value_at id self.old) }
+        ensures* writes_back { sem 𝓛 (lends_occupied T.row self.entry id result) }
+        ensures value { value_at id self.old ≡ Some result.now }
+        ensures visits { steps.new ≡ steps.old + 1 }
+    {
+        steps.tick();
+        self.value_mut(id)
+    }
+
+    #[cfg(test)]
+    pub(crate) fn has(&self, id: SlotId) -> bool
+        ensures { result ≡ is_some (value_at id self.now) }
+    {
+        matches!(self.slots.get(id.index()), Some(Slot::Occupied(_)))
+    }
+
+    fn value_mut(&mut self, id: SlotId) -> &mut T
+        requires { IsSome (value_at id self.old) }
+        ensures* writes_back { sem 𝓛 (lends_occupied T.row self.entry id result) }
+        ensures value { value_at id self.old ≡ Some result.now }
+    {
+        self.slots[id.index()].value_mut()
+    }
+
+    /// Takes the value out of a slot. The room for it stays.
+    pub fn remove<L: Ledger>(&mut self, id: SlotId, steps: &mut Steps<L>) -> T
+        requires { IsSome (value_at id self.old) }
+        ensures value { value_at id self.old ≡ Some result }
+        ensures state { self.new ≡ removed id self.old }
+        ensures vacant { value_at id self.new ≡ None }
+        ensures others { KeepsOthers id self.old self.new }
+        ensures len { occupied_len self.new + 1 ≡ occupied_len self.old }
+        ensures visits { steps.new ≡ steps.old + 1 }
+    {
+        steps.tick();
+        self.len -= 1;
+        let before = mem::replace(&mut self.vacant, Link::to(id));
+        match mem::replace(&mut self.slots[id.index()], Slot::Vacant(before)) {
+            Slot::Occupied(value) => value,
+            Slot::Vacant(_) => unreachable!(),
+        }
+    }
+
+    /// Takes all values out, by their slots. The arena is as new.
+    pub fn take_all(&mut self) -> ArenaIter<T>
+        ensures values { result ≡ values self.old }
+        ensures state { self.new ≡ empty_arena }
+    {
+        let alloc = *self.slots.allocator();
+        let arena = mem::replace(self, Arena::new(alloc));
+        ArenaIter::new(arena.slots)
+    }
+}
+
+impl<T: Drop> IntoIterator for Arena<T> {
+    type Item = T;
+
+    type IntoIter = ArenaIter<T>;
+
+    ghost into_iter_gives = { λ arena iter. iter ≡ values arena };
+
+    /// The values, by their slots.
+    fn into_iter(self) -> ArenaIter<T> {
+        ArenaIter::new(self.slots)
+    }
+}

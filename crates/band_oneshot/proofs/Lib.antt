@@ -1,0 +1,10 @@
+pub mod Acting
+pub mod Moving
+pub mod Preparing
+pub mod ReceiverActs
+pub mod SenderActs
+pub mod Sending
+pub mod Showing
+pub mod Slots
+pub mod Sound
+pub mod Waiting

@@ -1,0 +1,9 @@
+pub mod Calls
+pub mod Ends
+pub mod Kept
+pub mod Moves
+pub mod Runs
+pub mod Sound
+pub mod Stages
+pub mod Step
+pub mod Words

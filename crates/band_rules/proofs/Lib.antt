@@ -1,0 +1,7 @@
+pub mod States
+pub mod Planned
+pub mod Runs
+pub mod Keeping
+pub mod Waking
+pub mod Turns
+pub mod Written

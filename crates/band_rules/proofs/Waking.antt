@@ -1,0 +1,109 @@
+-- A call wakes those that waited before it and are granted after it, and nobody where it gives nothing back. A refused call changes nothing.
+use Rattle.std.proofs.Common.{◌≡◌, true, false, List, [], ◌∷◌, ◌++◌, refl, sym, ap, ap₂, ◌∙◌, subst, append-nil}
+use Rattle.std.specs.List.{AllByRecursion}
+use Rattle.std.specs.Str.{bytes_eq}
+use Rattle.band_base.specs.declared.refusal.Refusal.{Refusal}
+use Rattle.band_balance.specs.Laws.{granted_between, GrantsAFront}
+use Rattle.band_balance.specs.Line.{Waiting}
+use Rattle.band_balance.specs.Object.{Object, Answer, Done, Ready, Pending, Nothing, Drained, Figures}
+use Rattle.band_balance.specs.Rule.{act}
+use Rattle.band_balance.proofs.Fronts.{granted-same, front-same}
+use Rattle.band_balance.proofs.Rules.{bytes_told, woken-act, nobody-act, front-act}
+use Rattle.band_balance.proofs.Settle.{wakers}
+use Rattle.band_script.specs.declared.call.Call.{Call}
+use Rattle.band_rules.specs.declared.reply.Reply.TheVariants as replies
+use Rattle.band_rules.specs.Plan.{Plan, Refuse, Make, Act, plan}
+use Rattle.band_rules.specs.Script.{state_after}
+use Rattle.band_rules.specs.State.{State, Named, Tag}
+use Rattle.band_rules.specs.Step.{reply_of, perform, with_object, step}
+use Rattle.band_rules.specs.Woken.{granted_now, WakesTheGranted, EachGrantsAFront, RefusesWhole, gives_back}
+use Rattle.band_rules.specs.Order.{Sound, IsInOrder}
+use Rattle.band_rules.proofs.Runs.{of_step, in_order-after}
+use Rattle.band_rules.proofs.States.{IsAt, here, later, with_object_here, with_object_later}
+
+abbrev AllSound : State → Type 0
+AllSound state = AllByRecursion Sound state
+
+-- Nobody is granted in a state that stays, to which a new object may come; where one object changes, those are granted that it grants.
+granted_now-push : (state more : State) → AllSound state → granted_now state (state ++ more) ≡ []
+granted_now-push [] more sound = refl
+granted_now-push (first ∷ rest) more sound =
+    ap₂ (λ (xs ys : List (Waiting Tag)). xs ++ ys) (granted-same bytes_eq bytes_told first.object sound.0) (granted_now-push rest more sound.1)
+
+granted_now-same : (state : State) → AllSound state → granted_now state state ≡ []
+granted_now-same state sound = ap (granted_now state) (sym (append-nil state)) ∙ granted_now-push state [] sound
+
+granted_now-with_object : (object : Object Tag) {of : Named} {state : State} → IsAt of state → AllSound state
+    → granted_now state (with_object of.name object state) ≡ granted_between bytes_eq of.object.line object.line
+granted_now-with_object object {of = of} (here {rest = rest}) sound =
+    ap (granted_now (of ∷ rest)) (with_object_here of object rest)
+    ∙ ap (λ (ws : List (Waiting Tag)). granted_between bytes_eq of.object.line object.line ++ ws) (granted_now-same rest sound.1)
+    ∙ append-nil (granted_between bytes_eq of.object.line object.line)
+granted_now-with_object object {of = of} (later {first = first} {rest = rest} apart at) sound =
+    ap (granted_now (first ∷ rest)) (with_object_later of first object rest apart)
+    ∙ ap₂ (λ (xs ys : List (Waiting Tag)). xs ++ ys) (granted-same bytes_eq bytes_told first.object sound.0) (granted_now-with_object object at sound.1)
+
+front-push : (state more : State) → AllSound state → EachGrantsAFront state (state ++ more)
+front-push [] more sound = tt
+front-push (first ∷ rest) more sound = (front-same bytes_eq bytes_told first.object sound.0, front-push rest more sound.1)
+
+fronts-same : (state : State) → AllSound state → EachGrantsAFront state state
+fronts-same [] sound = tt
+fronts-same (first ∷ rest) sound = (front-same bytes_eq bytes_told first.object sound.0, fronts-same rest sound.1)
+
+front-with_object : (object : Object Tag) {of : Named} {state : State} → IsAt of state → AllSound state → GrantsAFront bytes_eq of.object.line object.line
+    → EachGrantsAFront state (with_object of.name object state)
+front-with_object object {of = of} (here {rest = rest}) sound front =
+    subst (EachGrantsAFront (of ∷ rest)) (sym (with_object_here of object rest)) (front, fronts-same rest sound.1)
+front-with_object object {of = of} (later {first = first} {rest = rest} apart at) sound front =
+    subst (EachGrantsAFront (first ∷ rest)) (sym (with_object_later of first object rest apart))
+    (front-same bytes_eq bytes_told first.object sound.0, front-with_object object at sound.1 front)
+
+module _ (state : State) (is : IsInOrder state) (call : Call) where
+  wakes : WakesTheGranted state (step call state)
+  wakes =
+      of_step state is call (λ plan effect. WakesTheGranted state effect)
+      (λ refusal. sym (ap wakers (granted_now-same state is.sound)))
+      (λ made object may. sym (ap wakers (granted_now-push state (record { name = made; object = object } ∷ []) is.sound)))
+      (λ of rule may sound.
+      woken-act bytes_eq bytes_told rule of.object may.allowed sound
+      ∙ sym (ap wakers (granted_now-with_object (act bytes_eq rule of.object).object may.at is.sound)))
+
+  nobody : gives_back call ≡ false → (step call state).woken ≡ []
+  nobody none =
+      of_step state is call (λ plan effect. effect.woken ≡ []) (λ refusal. refl) (λ made object may. refl)
+      (λ of rule may sound. nobody-act bytes_eq bytes_told rule of.object may.allowed sound (may.gives ∙ none))
+
+  front : gives_back call ≡ true → EachGrantsAFront state (step call state).state
+  front gives =
+      of_step state is call (λ plan effect. EachGrantsAFront state effect.state)
+      (λ refusal. fronts-same state is.sound)
+      (λ made object may. front-push state (record { name = made; object = object } ∷ []) is.sound)
+      (λ of rule may sound.
+      front-with_object (act bytes_eq rule of.object).object may.at is.sound (front-act bytes_eq bytes_told rule of.object may.allowed sound (may.gives ∙ gives)))
+
+pub wakes-after : (calls : List Call) (call : Call) → WakesTheGranted (state_after calls) (step call (state_after calls))
+wakes-after calls call = wakes (state_after calls) (in_order-after calls) call
+
+pub nobody-after : (calls : List Call) (call : Call) → gives_back call ≡ false → (step call (state_after calls)).woken ≡ []
+nobody-after calls call = nobody (state_after calls) (in_order-after calls) call
+
+pub front-after : (calls : List Call) (call : Call) → gives_back call ≡ true → EachGrantsAFront (state_after calls) (step call (state_after calls)).state
+front-after calls call = front (state_after calls) (in_order-after calls) call
+
+-- no rule of an object refuses
+not_refused : (answer : Answer) (refusal : Refusal) → reply_of answer ≡ replies.Refused refusal → ⊥
+not_refused Done refusal is = cc
+not_refused Ready refusal is = cc
+not_refused Pending refusal is = cc
+not_refused Nothing refusal is = cc
+not_refused (Drained count) refusal is = cc
+not_refused (Figures available free waiting granted held) refusal is = cc
+
+pub refuses_whole : (state : State) (call : Call) → RefusesWhole state (step call state)
+refuses_whole state call = go (plan call state)
+  where
+    go : (plan : Plan) → RefusesWhole state (perform plan state)
+    go (Refuse refusal) = λ other is. (refl, refl)
+    go (Make made object) = λ refusal is. cc
+    go (Act of rule) = λ refusal is. absurd (not_refused (act bytes_eq rule of.object).answer refusal is)

@@ -1,0 +1,5 @@
+use Rattle.band_rules.proofs.Waking.{wakes-after}
+use Rattle.band_rules.proofs.laws.wakes_name_the_granted.Goals as goal
+
+pub returns : goal.returns
+returns c = wakes-after

@@ -1,0 +1,39 @@
+-- Who joined a line before whom: those that were granted from it before those that wait in it still.
+use Rattle.std.specs.Prelude.{ℕ, ◌+◌, ◌<◌, if◌then◌else◌, Bool, false, List, [], ◌∷◌, Option, Some, None}
+use Rattle.std.specs.List.{AllByRecursion}
+use Rattle.std.specs.Str.{bytes_eq}
+use Rattle.band_balance.specs.Laws.{Pairwise}
+use Rattle.band_balance.specs.Line.{Entry, Waiting, Line, requests}
+use Rattle.band_balance.specs.Rule.{joiner}
+use Rattle.band_script.specs.declared.call.Call.{Call}
+use Rattle.band_rules.specs.Plan.{Plan, Act, plan}
+use Rattle.band_rules.specs.State.{State, Tag}
+use Rattle.band_rules.specs.Step.{step}
+
+-- does a plan put a request of this name into a line?
+abbrev pub is_joiner : List ℕ → Option (List ℕ) → Bool
+is_joiner name None = false
+is_joiner name (Some joiner) = bytes_eq name joiner
+
+abbrev pub joins : List ℕ → Plan → Bool
+joins name (Act of rule) = is_joiner name (joiner rule of.object)
+joins name plan = false
+
+-- the number of the last call at which a name joined a line, where the next call has the number `now`, and `last` is the one so far
+abbrev pub joined_from : List ℕ → ℕ → ℕ → State → List Call → ℕ
+joined_from name last now state [] = last
+joined_from name last now state (call ∷ calls) =
+    joined_from name (if joins name (plan call state) then now else last) (now + 1) (step call state).state calls
+
+-- the same over a script, from 1; 0 where it joined none
+abbrev pub joined : List ℕ → List Call → ℕ
+joined name calls = joined_from name 0 1 [] calls
+
+-- those in a line stand in the order in which they joined it, those that were granted first
+abbrev pub StandInTurn : List Call → Line Tag → Type 0
+StandInTurn calls line = Pairwise (λ (a b : Entry Tag). joined a.name.name calls < joined b.name.name calls) (requests line)
+
+-- so each that waits joined it after each that was granted from it
+abbrev pub GrantedInTurn : List Call → Line Tag → Type 0
+GrantedInTurn calls line =
+    AllByRecursion (λ (waits : Waiting Tag). AllByRecursion (λ (granted : Entry Tag). joined granted.name.name calls < joined waits.name.name calls) line.granted) line.waiting

@@ -1,0 +1,10 @@
+pub mod State
+pub mod Order
+pub mod Plan
+pub mod Step
+pub mod Text
+pub mod Script
+pub mod Kept
+pub mod Woken
+pub mod Joined
+pub mod Bounds

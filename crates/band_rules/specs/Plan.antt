@@ -1,0 +1,155 @@
+-- What a call comes to in a state: it is refused, it makes an object, or it does a rule to one. The refusals are tested in the
+-- order of the lines: unknown, kind, same, taken, finished, other, overflow, debt.
+use Rattle.std.specs.Prelude.{ℕ, ◌-◌, ◌^◌, Bool, true, false, not, if◌then◌else◌, List, Option, Some, None, Result, Ok, Err}
+use Rattle.std.specs.Str.{bytes_eq}
+use Rattle.band_base.specs.declared.refusal.Refusal.{Refusal}
+use Rattle.band_base.specs.declared.refusal.Refusal.TheVariants.{Unknown, Kind, Same, Taken, Finished, Other, Overflow, Debt}
+use Rattle.band_balance.specs.Object.{Object, Mode, Permit, Lock, Read, Write, tag, is_of, size_of, new_semaphore, new_mutex, new_reader_writer, would_overflow, would_owe_too_much}
+use Rattle.band_balance.specs.Object as objects
+use Rattle.band_balance.specs.Rule.{Rule}
+use Rattle.band_balance.specs.Rule as rules
+use Rattle.band_script.specs.declared.call.Call.{Call}
+use Rattle.band_script.specs.declared.call.Call.TheVariants as calls
+use Rattle.band_rules.specs.State.{State, Named, Tag, Standing, Absent, AnObject, ARequest, AHolding, standing}
+
+pub data Plan : Type 0 where
+  Refuse : (refusal : Refusal) → Plan
+  Make : (made : List ℕ) (object : Object Tag) → Plan
+  Act : (of : Named) (rule : Rule (List ℕ)) → Plan
+
+-- what was found, or why the call is refused
+infixl 10 ◌>>=◌
+abbrev pub ◌>>=◌ : {A : Type 0} → Result A Refusal → (A → Plan) → Plan
+(Ok found) >>= f = f found
+(Err refusal) >>= f = Refuse refusal
+
+-- an object of any kind
+abbrev pub object_of : Standing → Result Named Refusal
+object_of Absent = Err Unknown
+object_of (AnObject it) = Ok it
+object_of (ARequest of entry) = Err Kind
+object_of (AHolding of entry) = Err Kind
+
+-- an object of which this is asked
+abbrev pub object_for : Mode → Standing → Result Named Refusal
+object_for mode Absent = Err Unknown
+object_for mode (AnObject it) = if is_of it.object.kind mode then Ok it else Err Kind
+object_for mode (ARequest of entry) = Err Kind
+object_for mode (AHolding of entry) = Err Kind
+
+-- the object that a request was asked of
+abbrev pub asked_object : Standing → Result Named Refusal
+asked_object Absent = Err Unknown
+asked_object (AnObject it) = Err Kind
+asked_object (ARequest of entry) = Ok of
+asked_object (AHolding of entry) = Err Finished
+
+-- the object of a request or of what is held
+abbrev pub owner : Standing → Result Named Refusal
+owner Absent = Err Unknown
+owner (AnObject it) = Err Kind
+owner (ARequest of entry) = Ok of
+owner (AHolding of entry) = Ok of
+
+abbrev pub same_mode : Mode → Mode → Bool
+same_mode Permit Permit = true
+same_mode Lock Lock = true
+same_mode Read Read = true
+same_mode Write Write = true
+same_mode mode other = false
+
+-- the object of what is held in this mode
+abbrev pub lender : Mode → Standing → Result Named Refusal
+lender mode Absent = Err Unknown
+lender mode (AnObject it) = Err Kind
+lender mode (ARequest of entry) = Err Kind
+lender mode (AHolding of entry) = if same_mode mode entry.name.mode then Ok of else Err Kind
+
+-- where a name is live, and where it isn't
+abbrev pub if_live : Standing → Result (Unit {0}) Refusal
+if_live Absent = Err Unknown
+if_live standing = Ok tt
+
+abbrev pub if_unused : Standing → Result (Unit {0}) Refusal
+if_unused Absent = Ok tt
+if_unused standing = Err Taken
+
+-- where the test fails
+abbrev pub refuse_if : Bool → Refusal → Result (Unit {0}) Refusal
+refuse_if true refusal = Err refusal
+refuse_if false refusal = Ok tt
+
+-- a new object under a name that isn't live
+abbrev pub making : List ℕ → Object Tag → State → Plan
+making made object state = do
+  _ ← if_unused (standing made state)
+  Make made object
+
+-- a request of an object of which this is asked, for so much by its kind
+abbrev pub asking : Mode → (objects.Kind → ℕ) → List ℕ → List ℕ → ℕ → State → Plan
+asking mode size made of waker state = do
+  one ← object_for mode (standing of state)
+  _ ← if_unused (standing made state)
+  Act one (rules.Ask (tag mode made) (size one.object.kind) waker)
+
+abbrev pub trying : Mode → (objects.Kind → ℕ) → List ℕ → List ℕ → State → Plan
+trying mode size made of state = do
+  one ← object_for mode (standing of state)
+  _ ← if_unused (standing made state)
+  Act one (rules.Try (tag mode made) (size one.object.kind))
+
+-- the most readers at a time, where a call doesn't say
+abbrev pub most_readers : Option ℕ → ℕ
+most_readers None = 2 ^ 63 - 1
+most_readers (Some n) = n
+
+abbrev pub plan : Call → State → Plan
+plan (calls.Sem made n) state = making made (new_semaphore n) state
+plan (calls.Mutex made) state = making made new_mutex state
+plan (calls.Rw made n) state = making made (new_reader_writer (most_readers n)) state
+plan (calls.Ask made of n waker) state = asking Permit (λ kind. n) made of waker state
+plan (calls.Lock made of waker) state = asking Lock (λ kind. size_of kind Lock) made of waker state
+plan (calls.Read made of waker) state = asking Read (λ kind. size_of kind Read) made of waker state
+plan (calls.Write made of waker) state = asking Write (λ kind. size_of kind Write) made of waker state
+plan (calls.Poll name waker) state = do
+  of ← asked_object (standing name state)
+  Act of (rules.Poll name waker)
+plan (calls.Drop name) state = do
+  of ← owner (standing name state)
+  Act of (rules.Drop name)
+plan (calls.Try made of n) state = trying Permit (λ kind. n) made of state
+plan (calls.TryLock made of) state = trying Lock (λ kind. size_of kind Lock) made of state
+plan (calls.TryRead made of) state = trying Read (λ kind. size_of kind Read) made of state
+plan (calls.TryWrite made of) state = trying Write (λ kind. size_of kind Write) made of state
+plan (calls.Release of n) state = do
+  one ← object_for Permit (standing of state)
+  _ ← refuse_if (would_overflow n one.object) Overflow
+  Act one (rules.Release n)
+plan (calls.Reduce of n) state = do
+  one ← object_for Permit (standing of state)
+  _ ← refuse_if (would_owe_too_much n one.object) Debt
+  Act one (rules.Reduce n)
+plan (calls.Drain of n) state = do
+  one ← object_for Permit (standing of state)
+  Act one (rules.Drain n)
+plan (calls.Forget name) state = do
+  of ← lender Permit (standing name state)
+  Act of (rules.Forget name)
+plan (calls.Split name made n) state = do
+  of ← lender Permit (standing name state)
+  _ ← if_unused (standing made state)
+  Act of (rules.Split name made n)
+plan (calls.Merge kept spent) state = do
+  _ ← if_live (standing kept state)
+  _ ← if_live (standing spent state)
+  one ← lender Permit (standing kept state)
+  other ← lender Permit (standing spent state)
+  _ ← refuse_if (bytes_eq kept spent) Same
+  _ ← refuse_if (not (bytes_eq one.name other.name)) Other
+  Act one (rules.Merge kept spent)
+plan (calls.Downgrade name) state = do
+  of ← lender Write (standing name state)
+  Act of (rules.Downgrade name)
+plan (calls.Status name) state = do
+  it ← object_of (standing name state)
+  Act it rules.Status

@@ -1,0 +1,38 @@
+-- Whom a call wakes: those that waited before it and are granted after it.
+use Rattle.std.specs.Prelude.{◌≡◌, Bool, true, false, List, [], ◌∷◌, ◌++◌, map}
+use Rattle.std.specs.Str.{bytes_eq}
+use Rattle.band_base.specs.declared.refusal.Refusal.{Refusal}
+use Rattle.band_balance.specs.Line.{Waiting}
+use Rattle.band_balance.specs.Laws.{granted_between, GrantsAFront}
+use Rattle.band_script.specs.declared.call.Call.{Call}
+use Rattle.band_script.specs.declared.call.Call.TheVariants as calls
+use Rattle.band_rules.specs.declared.reply.Reply.TheVariants as replies
+use Rattle.band_rules.specs.State.{State, Tag}
+use Rattle.band_rules.specs.Step.{Effect}
+
+-- those that waited in a line before and are granted after, in order; an object stays at its place, and a new one comes last
+abbrev pub granted_now : State → State → List (Waiting Tag)
+granted_now [] after = []
+granted_now (first ∷ rest) [] = []
+granted_now (first ∷ rest) (now ∷ later) = granted_between bytes_eq first.object.line now.object.line ++ granted_now rest later
+
+-- those are woken, by the wakers that they left last
+abbrev pub WakesTheGranted : State → Effect → Type 0
+WakesTheGranted state effect = effect.woken ≡ map (λ w. w.waker) (granted_now state effect.state)
+
+-- a front of each line is granted
+abbrev pub EachGrantsAFront : State → State → Type 0
+EachGrantsAFront [] after = Unit {0}
+EachGrantsAFront (first ∷ rest) [] = ⊥
+EachGrantsAFront (first ∷ rest) (now ∷ later) = GrantsAFront bytes_eq first.object.line now.object.line × EachGrantsAFront rest later
+
+-- a refused call changes nothing and wakes nobody
+abbrev pub RefusesWhole : State → Effect → Type 0
+RefusesWhole state effect = (refusal : Refusal) → effect.reply ≡ replies.Refused refusal → (effect.state ≡ state) × (effect.woken ≡ [])
+
+-- the calls that may give permits back to a line, or take a request out of it
+abbrev pub gives_back : Call → Bool
+gives_back (calls.Release of n) = true
+gives_back (calls.Drop name) = true
+gives_back (calls.Downgrade name) = true
+gives_back call = false

@@ -1,0 +1,83 @@
+//! Laws of scripts.
+ghost use Rattle.std.specs.List.{AllByRecursion};
+ghost use Rattle.std.specs.Prelude.{◌≡◌, List, [], ℕ, true, false, ◌+ℤ◌};
+ghost use Rattle.band_balance.specs.Laws.{IsExclusive, IsWithin};
+ghost use Rattle.band_balance.specs.Settled.{HeadWaits};
+ghost use Rattle.band_script.specs.Call.{ForReaders};
+ghost use Rattle.band_script.specs.declared.call.Call.{Call as TheCall};
+ghost use Rattle.band_rules.specs.Bounds.{HasNumbers};
+ghost use Rattle.band_rules.specs.Joined.{GrantedInTurn, StandInTurn};
+ghost use Rattle.band_rules.specs.Kept.{brought_from, object_named, permits_of, removed_from};
+ghost use Rattle.band_rules.specs.Script.{calls_of, state_after};
+ghost use Rattle.band_rules.specs.State.{Named};
+ghost use Rattle.band_rules.specs.Step.{step};
+ghost use Rattle.band_rules.specs.Woken.{EachGrantsAFront, RefusesWhole, WakesTheGranted, gives_back};
+
+/// After any calls, what an object was made with and what was released to it is what is free, granted and held of it, and
+/// what was reduced, drained and forgotten.
+pub fn permits_are_kept()
+    ensures { (calls : List TheCall) → AllByRecursion ForReaders calls → (name : List ℕ)
+        → permits_of (object_named name (state_after calls)) +ℤ removed_from name [] calls ≡ brought_from name [] calls }
+{}
+
+/// The calls of a script make locks for one reader at least.
+pub fn locks_are_for_readers()
+    ensures { (lines : List (List ℕ)) → AllByRecursion ForReaders (calls_of lines) }
+{}
+
+/// After any calls, a held or granted write excludes every other held or granted entry of its lock, and a mutex has at most one.
+pub fn writes_exclude()
+    ensures { (calls : List TheCall) → AllByRecursion ForReaders calls
+        → AllByRecursion (λ (named : Named). IsExclusive named.object) (state_after calls) }
+{}
+
+/// After any calls, the first that waits in a line asks for more than is free.
+pub fn heads_wait()
+    ensures { (calls : List TheCall)
+        → AllByRecursion (λ (named : Named). HeadWaits named.object.line.free named.object.line.waiting) (state_after calls) }
+{}
+
+/// The numbers in the calls of a script are below 2 to the 64th.
+pub fn numbers_fit()
+    ensures { (lines : List (List ℕ)) → AllByRecursion HasNumbers (calls_of lines) }
+{}
+
+/// After any calls with such numbers, what is granted and held of an object is at most the largest count, also with what is
+/// free, and no more than the largest count is owed.
+pub fn no_more_than_all()
+    ensures { (calls : List TheCall) → AllByRecursion ForReaders calls → AllByRecursion HasNumbers calls
+        → AllByRecursion (λ (named : Named). IsWithin named.object) (state_after calls) }
+{}
+
+/// After any calls, those in a line stand in the order in which they joined it, those that were granted first. So whoever was
+/// granted from a line joined it before everyone who waits in it still.
+pub fn lines_stand_in_turn()
+    ensures stand { (calls : List TheCall)
+        → AllByRecursion (λ (named : Named). StandInTurn calls named.object.line) (state_after calls) }
+    ensures granted { (calls : List TheCall)
+        → AllByRecursion (λ (named : Named). GrantedInTurn calls named.object.line) (state_after calls) }
+{}
+
+/// A call after any calls wakes those that waited before it and are granted after it, in the order of their line, each once and by
+/// the waker that it left last.
+pub fn wakes_name_the_granted()
+    ensures { (calls : List TheCall) → (call : TheCall) → WakesTheGranted (state_after calls) (step call (state_after calls)) }
+{}
+
+/// A call after any calls wakes nobody, unless it is a release, a drop or a downgrade.
+pub fn only_giving_back_wakes()
+    ensures { (calls : List TheCall) → (call : TheCall) → gives_back call ≡ false → (step call (state_after calls)).woken ≡ [] }
+{}
+
+/// Where a call after any calls is a release, a drop or a downgrade, at most one leaves a line, and those that it grants stood in
+/// front of those that wait still and follow those granted before. It grants nobody where permits are owed still: what comes back
+/// pays them first.
+pub fn a_front_is_granted()
+    ensures { (calls : List TheCall) → (call : TheCall) → gives_back call ≡ true
+        → EachGrantsAFront (state_after calls) (step call (state_after calls)).state }
+{}
+
+/// A refused call changes nothing and wakes nobody, in any state.
+pub fn refusals_change_nothing()
+    ensures { (state : List Named) → (call : TheCall) → RefusesWhole state (step call state) }
+{}
