@@ -44,8 +44,8 @@ pub enum RecvPoll<T> {
     Ready(Result<T, RecvError>),
     /// The wait goes on, and the waker of this poll is left for the sender.
     Pending,
-    /// The wait goes on. The sender is about to end it, and woke an older waker: the one of this poll, which comes back, is to be
-    /// woken at once.
+    /// The wait goes on. The sender is about to end it, and has taken an older waker: the one of this poll, which comes back,
+    /// is to be woken at once.
     Again(Waker),
 }
 
