@@ -9,3 +9,4 @@ pub mod Shares
 pub mod Orderly
 pub mod Fronts
 pub mod Rules
+pub mod Alike

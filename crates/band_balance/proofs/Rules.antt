@@ -5,7 +5,7 @@ use Rattle.std.proofs.lemmas.Int.{ints}
 use Rattle.std.proofs.lemmas.Slice.Eq.{bytes_eq-Decides}
 use Rattle.band_balance.specs.Line.{requests, u64_max}
 use Rattle.band_balance.specs.Object.{Object, Turn, Kind, Tag, new_semaphore, new_mutex, new_reader_writer}
-use Rattle.band_balance.specs.Rule.{Rule, IsAllowed, act, brought, removed, joiner, gives_back}
+use Rattle.band_balance.specs.Rule.{Rule, IsAllowed, act, brought, removed, joiner, may_grant}
 use Rattle.band_balance.specs.Laws.{permits, IsWithin, LetsIn, KeepsShares, IsOrderly, granted_between, GrantsAFront}
 use Rattle.band_balance.proofs.Accounts.{accounts}
 use Rattle.band_balance.proofs.Fronts.{Wakes, wakes-by}
@@ -44,16 +44,16 @@ module _ {K : Type 0} (same : K → K → Bool) (told : TellsApart same) (rule :
   queues-act = of_turn (λ t. Queues same object (joiner rule object) (requests t.object.line)) (queues same object by.becomes)
 
   module _ (orderly : IsOrderly same object) where
-    wakes : Wakes same told object orderly (gives_back rule) by.line
+    wakes : Wakes same told object orderly (may_grant rule) by.line
     wakes = wakes-by same told object orderly by.becomes
 
     pub woken-act : (act same rule object).woken ≡ wakers (granted_between same object.line (act same rule object).object.line)
     woken-act = of_turn (λ t. t.woken ≡ wakers (granted_between same object.line t.object.line)) wakes.granted
 
-    pub nobody-act : gives_back rule ≡ false → (act same rule object).woken ≡ []
+    pub nobody-act : may_grant rule ≡ false → (act same rule object).woken ≡ []
     nobody-act none = of_turn (λ t. t.woken ≡ []) (wakes.nobody none)
 
-    pub front-act : gives_back rule ≡ true → GrantsAFront same object.line (act same rule object).object.line
+    pub front-act : may_grant rule ≡ true → GrantsAFront same object.line (act same rule object).object.line
     front-act gives = of_turn (λ t. GrantsAFront same object.line t.object.line) (still (wakes.front gives))
       where
         still : GrantsAFront same object.line by.line → GrantsAFront same object.line (record by.line { wakes = [] })

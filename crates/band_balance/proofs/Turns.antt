@@ -3,7 +3,7 @@ use Rattle.std.proofs.Common.{◌≡◌, ℕ, ◌+◌, ◌-◌, ◌≤◌, Bool,
 use Rattle.std.proofs.lemmas.Bool.{cond-true, cond-false, leb-true, false≢true}
 use Rattle.band_balance.specs.Line.{Entry, Line, is_served, take_permits, give_back, join, drained, entry_named, without, poll_granted, poll_waiting, cancel}
 use Rattle.band_balance.specs.Object.{Object, Answer, Done, Ready, Pending, Nothing, Drained, turn, hold, change, Kind, Semaphore, Mutex, ReaderWriter, Permit, Read, Write, Tag, tag, is_of, poll_of, drop_of, split_of, merge_of, downgrade_of, would_overflow, would_owe_too_much}
-use Rattle.band_balance.specs.Rule.{Rule, Ask, Poll, Try, Drop, Release, Reduce, Drain, Forget, Split, Merge, Downgrade, Status, Fits, is, act, IsFresh, Holds, IsAllowed, size_in, brought, removed, joiner, gives_back}
+use Rattle.band_balance.specs.Rule.{Rule, Ask, Poll, Try, Drop, Release, Reduce, Drain, Forget, Split, Merge, Downgrade, Status, Fits, is, act, IsFresh, Holds, IsAllowed, size_in, brought, removed, joiner, may_grant}
 
 -- by whether it may let the line settle, what it brings and what it takes away, and who joins
 pub data Becomes {K : Type 0} (same : K → K → Bool) (object : Object (Tag K)) : Bool → ℕ → ℕ → Option K → Line (Tag K) → List (Entry (Tag K)) → Type 0 where
@@ -34,7 +34,7 @@ pub record TurnsBy {K : Type 0} (same : K → K → Bool) (object : Object (Tag 
   pub line : Line (Tag K)
   pub held : List (Entry (Tag K))
   pub turns : act same rule object ≡ turn answer (record object { line = line; held = held })
-  pub becomes : Becomes same object (gives_back rule) (brought rule) (removed same rule object) (joiner rule object) line held
+  pub becomes : Becomes same object (may_grant rule) (brought rule) (removed same rule object) (joiner rule object) line held
 
 -- only a reader-writer lock is written
 pub write_of : (kind : Kind) → is_of kind Write ≡ true → (max : ℕ) × (kind ≡ ReaderWriter max)

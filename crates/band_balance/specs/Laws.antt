@@ -1,8 +1,8 @@
 -- What is so of an object between any two rules, and what a rule does to those in its line.
 use Rattle.std.specs.Prelude.{◌≡◌, ℕ, ◌+◌, ◌<◌, ◌≤◌, Bool, false, List, [], ◌∷◌, ◌++◌, map, length, ℤ, pos, neg_ℤ, ◌+ℤ◌, ◌≤ℤ◌, ◌<ℤ◌, Option, Some, None, IfSome}
 use Rattle.std.specs.List.{AllByRecursion, list_any, filter}
-use Rattle.band_balance.specs.Line.{Entry, Waiting, Line, entry_of, requests, total, u64_max, without, without_waiting}
-use Rattle.band_balance.specs.Object.{Object, Kind, Semaphore, Mutex, ReaderWriter, Write, Tag}
+use Rattle.band_balance.specs.Line.{Entry, Waiting, Line, AreAlike, entry_of, requests, total, u64_max, without, without_waiting}
+use Rattle.band_balance.specs.Object.{Object, Turn, Kind, Semaphore, Mutex, ReaderWriter, Write, Tag}
 use Rattle.band_balance.specs.Rule.{Fits, is}
 use Rattle.band_balance.specs.Settled.{HeadWaits}
 
@@ -79,3 +79,14 @@ module _ {K : Type 0} (same : K → K → Bool) where
     pub granted : after.granted ≡ without left before.granted ++ map entry_of (granted_between before after)
     -- where permits are owed still, nobody is granted
     pub owed : after.free <ℤ pos 0 → granted_between before after ≡ []
+
+-- two objects that differ at most in the order of those granted, and two turns that answer and wake the same and leave such objects
+pub record ObjectsAlike {N : Type 0} (one other : Object N) : Type 0 where
+  pub kind : other.kind ≡ one.kind
+  pub line : AreAlike one.line other.line
+  pub held : other.held ≡ one.held
+
+pub record TurnsAlike {N : Type 0} (one other : Turn N) : Type 0 where
+  pub answer : other.answer ≡ one.answer
+  pub woken : other.woken ≡ one.woken
+  pub object : ObjectsAlike one.object other.object

@@ -1,13 +1,14 @@
 -- A line: what is free, who waits, who was granted and has not polled since, and the wakers to wake.
 -- N is what names an entry: a slot of a semaphore, or a name of a script with its mode.
-use Rattle.std.specs.Prelude.{ℕ, Bool, true, false, ◌&&◌, ◌||◌, ◌==◌, List, [], ◌∷◌, ◌++◌, map, min, ℤ, pos, ◌+ℤ◌, ◌-ℤ◌, int_le, int_lt, unsigned_abs, if◌then◌else◌, Option, Some, None, find, sum_by, ◌-◌, ◌+◌, ◌^◌, neg_ℤ}
+use Rattle.std.specs.Prelude.{◌≡◌, ℕ, Bool, true, false, ◌&&◌, ◌||◌, ◌==◌, List, [], ◌∷◌, ◌++◌, map, min, ℤ, pos, ◌+ℤ◌, ◌-ℤ◌, int_le, int_lt, unsigned_abs, if◌then◌else◌, Option, Some, None, find, sum_by, ◌-◌, ◌+◌, ◌^◌, neg_ℤ}
+use Rattle.std.specs.List.Sorted.{IsPermutation}
 
 -- a request that was granted, or a permit that is held
 pub record Entry (N : Type 0) : Type 0 where
   pub name : N
   pub size : ℕ
 
--- a request that waits, with the waker that it last left
+-- a request that waits, with the waker to wake it by
 pub record Waiting (N : Type 0) : Type 0 where
   pub name : N
   pub size : ℕ
@@ -19,6 +20,13 @@ pub record Line (N : Type 0) : Type 0 where
   pub waiting : List (Waiting N)
   pub granted : List (Entry N)
   pub wakes : List ℕ
+
+-- Two lines are alike where they differ at most in the order of those granted, which no rule looks at.
+pub record AreAlike {N : Type 0} (one other : Line N) : Type 0 where
+  pub free : other.free ≡ one.free
+  pub waiting : other.waiting ≡ one.waiting
+  pub granted : IsPermutation one.granted other.granted
+  pub wakes : other.wakes ≡ one.wakes
 
 -- the largest count
 abbrev pub u64_max : ℕ

@@ -92,8 +92,8 @@ joiner (Ask made size waker) object = if is_served size object.line then None el
 joiner rule object = None
 
 -- what may let the line settle: something comes back, or a request leaves
-abbrev pub gives_back : {K : Type 0} → Rule K → Bool
-gives_back (Drop name) = true
-gives_back (Release n) = true
-gives_back (Downgrade writer) = true
-gives_back rule = false
+abbrev pub may_grant : {K : Type 0} → Rule K → Bool
+may_grant (Drop name) = true
+may_grant (Release n) = true
+may_grant (Downgrade writer) = true
+may_grant rule = false

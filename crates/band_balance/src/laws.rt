@@ -2,8 +2,8 @@
 ghost use Rattle.std.specs.Prelude.{◌≡◌, List, [], ℕ, true, false, map, pos, ◌+ℤ◌};
 ghost use Rattle.std.specs.Str.{bytes_eq};
 ghost use Rattle.band_balance.specs.Object.{Object, Tag};
-ghost use Rattle.band_balance.specs.Rule.{Rule, IsAllowed, act, brought, removed, gives_back};
-ghost use Rattle.band_balance.specs.Laws.{permits, LetsIn, IsOrderly, IsWithin, KeepsShares, IsExclusive, granted_between, GrantsAFront};
+ghost use Rattle.band_balance.specs.Rule.{Rule, IsAllowed, act, brought, removed, may_grant};
+ghost use Rattle.band_balance.specs.Laws.{permits, LetsIn, IsOrderly, IsWithin, KeepsShares, IsExclusive, granted_between, GrantsAFront, ObjectsAlike, TurnsAlike};
 
 /// What is free, granted and held of an object adds up with what the rule brings and what it takes away for good.
 pub fn permits_add_up()
@@ -34,7 +34,7 @@ pub fn who_writes_is_alone()
     ensures { (object : Object (Tag (List ℕ))) → LetsIn object.kind → IsOrderly bytes_eq object → KeepsShares object → IsExclusive object }
 {}
 
-/// A rule wakes those that waited before it and are granted after it, in order, each by the waker that it left last.
+/// A rule wakes those that waited before it and are granted after it, in order, each by the waker that the line keeps for it.
 pub fn rules_wake_the_granted()
     ensures { (rule : Rule (List ℕ)) → (object : Object (Tag (List ℕ))) → IsAllowed bytes_eq rule object → IsOrderly bytes_eq object
         → (act bytes_eq rule object).woken ≡ map (λ w. w.waker) (granted_between bytes_eq object.line (act bytes_eq rule object).object.line) }
@@ -43,11 +43,18 @@ pub fn rules_wake_the_granted()
 /// A rule wakes nobody, unless something comes back or a request leaves.
 pub fn only_giving_back_wakes_anybody()
     ensures { (rule : Rule (List ℕ)) → (object : Object (Tag (List ℕ))) → IsAllowed bytes_eq rule object → IsOrderly bytes_eq object
-        → gives_back rule ≡ false → (act bytes_eq rule object).woken ≡ [] }
+        → may_grant rule ≡ false → (act bytes_eq rule object).woken ≡ [] }
 {}
 
 /// And then a front of those that waited is granted, and nobody while permits are owed.
 pub fn rules_grant_a_front()
     ensures { (rule : Rule (List ℕ)) → (object : Object (Tag (List ℕ))) → IsAllowed bytes_eq rule object → IsOrderly bytes_eq object
-        → gives_back rule ≡ true → GrantsAFront bytes_eq object.line (act bytes_eq rule object).object.line }
+        → may_grant rule ≡ true → GrantsAFront bytes_eq object.line (act bytes_eq rule object).object.line }
+{}
+
+/// No rule looks at the order of those granted: of objects that differ in it alone, a rule answers and wakes the same, and makes
+/// objects that differ in it alone.
+pub fn rules_look_at_no_order()
+    ensures { (rule : Rule (List ℕ)) → (one other : Object (Tag (List ℕ))) → IsOrderly bytes_eq one → ObjectsAlike one other
+        → TurnsAlike (act bytes_eq rule one) (act bytes_eq rule other) }
 {}

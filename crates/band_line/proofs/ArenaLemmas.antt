@@ -4,8 +4,7 @@ use Rattle.std.proofs.Common.{length, map, get_or, set, count_by, cond, arith, a
 use Rattle.std.specs.Prelude.{unwrap_or, filter_map}
 use Rattle.std.proofs.lemmas.List.{map-set, map_push, length-map, length_push, get_or-set_same, get_or-set_other, get_or_past}
 use Rattle.std.proofs.lemmas.List.Sums.{sum_by-set, sum_by-cons, sum_by_push}
-use Rattle.band_line.specs.Link.{slot_limit}
-use Rattle.band_line.specs.Arena.{ArenaState, inserted, with_value, removed}
+use Rattle.band_line.specs.Arena.{ArenaState, inserted, with_value, removed, slot_limit}
 use Rattle.band_line.specs.Slots.{IsChain, value_of, values_of, next_of, next_at, vacated_of, state_of, IsArena}
 use Rattle.band_line.specs.declared.arena.Slot.{Slot}
 use Rattle.band_line.specs.declared.arena.Slot.TheVariants.{Vacant, Occupied}
@@ -76,7 +75,7 @@ module _ {T : Type 0} where
   vacant_at (Occupied value ∷ rest) zero there = absurd (grind (arith))
   vacant_at (slot ∷ rest) (suc id) there = vacant_at rest id there
 
-  vacant_within : (slots : List (Slot T)) (id : ℕ) → IsSome (next_at slots id) → id < length slots
+  pub vacant_within : (slots : List (Slot T)) (id : ℕ) → IsSome (next_at slots id) → id < length slots
   vacant_within slots id there = let inside : id < length (map next_of slots) = grind (arith, get_or_past) in omega (arith, length-map slots next_of)
 
   module _ {slots : List (Slot T)} {capacity len : ℕ} where

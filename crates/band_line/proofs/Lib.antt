@@ -3,4 +3,5 @@ mod ArenaMaps
 mod Chains
 mod LineLemmas
 mod Linking
+mod SoundArena
 pub mod WaitListLemmas

@@ -1,14 +1,14 @@
 -- Lemmas on what a contract sees of a wait list, for callers.
-use Rattle.std.proofs.Common.{◌≡◌, ◌≢◌, refl, ℕ, List, [], ◌∷◌, ◌++◌, drop, slice_get, arith, ap, sym, ◌∙◌, Option, Some, None, is_some, IsSome, Bool, true, false, not, nat_eq}
+use Rattle.std.proofs.Common.{◌≡◌, ◌≢◌, refl, ℕ, List, [], ◌∷◌, ◌++◌, ◌+◌, length, drop, slice_get, arith, ap, sym, subst, ◌∙◌, Option, Some, None, is_some, IsSome, Bool, true, false, not, nat_eq}
 use Rattle.std.specs.Prelude.{◌==◌, ◌||◌}
 use Rattle.std.specs.List.{IsDistinct, AllByRecursion}
 use Rattle.std.proofs.lemmas.Bool.Decides.{nat_tests}
 use Rattle.band_line.specs.Arena.{occupied_len, next_slot}
-use Rattle.band_line.specs.WaitList.{WaitListState, IsWaitList, Joins, pushed_front, pushed_back, IsWritten, IsUnlinked, waiter_at, with_waiter, detached, unlinked, AnswersLeaving}
+use Rattle.band_line.specs.WaitList.{WaitListState, IsWaitList, empty_list, Joins, pushed_front, pushed_back, IsWritten, IsUnlinked, waiter_at, with_waiter, detached, unlinked, AnswersLeaving}
 use Rattle.std.specs.Borrow.{MutBor}
 use Rattle.std.specs.Fn.{Once}
 use Rattle.band_line.proofs.ArenaMaps.{value_at-with_value, value_at-with_value_other, occupied_len-with_value}
-use Rattle.band_line.proofs.Linking.{is_in, is_in_here, is_in_other, is_in_push, is_in_push_other, without}
+use Rattle.band_line.proofs.Linking.{is_in, is_in_here, is_in_other, is_in_push, is_in_push_other, without, without-IsOff, IsOff-is_in}
 
 off_first : (id : ℕ) (rest : List ℕ) → AllByRecursion (λ other. nat_eq id other ≡ false) rest → without id rest ≡ rest
 off_first id [] off = refl
@@ -40,6 +40,26 @@ is_in-without_other id other (x ∷ xs) differs = by_first (x == id) refl (is_in
         rw (ap not e) (rw elsewhere rest)
     by_first false e rest = rw (ap not e) (ap (λ b. x == other || b) rest)
 
+-- one is taken out of a list, in which it stands once
+length-without : (id : ℕ) (ids : List ℕ) → IsDistinct nat_eq ids → is_in id ids ≡ true → length (without id ids) + 1 ≡ length ids
+unfolding IsDistinct
+length-without id [] once here = absurd (cc)
+length-without id (x ∷ xs) once here = by_first (x == id) refl (length-without id xs once.1)
+  where
+    by_first : (same : Bool) → (x == id) ≡ same → (is_in id xs ≡ true → length (without id xs) + 1 ≡ length xs) → length (without id (x ∷ xs)) + 1 ≡ length (x ∷ xs)
+    by_first true e rest =
+        let same : x ≡ id = grind (arith, nat_tests) in
+        let off : AllByRecursion (λ other. nat_eq id other ≡ false) xs = subst (λ k. AllByRecursion (λ other. nat_eq k other ≡ false) xs) same once.0 in
+        rw (ap not e, off_first id xs off) (omega arith)
+    by_first false e rest =
+        let others = rest (rw e at here) in
+        rw (ap not e) (omega arith)
+
+-- nobody is linked in a new list
+pub nobody_linked : {T : Type 0} → IsWaitList (empty_list {T = T})
+unfolding IsDistinct
+nobody_linked = record { here = λ id linked. absurd (cc); once = tt }
+
 pub after_write : {T : Type 0} {old new : WaitListState T} {id : ℕ} {last : T}
     → IsSome (waiter_at id old) → new ≡ with_waiter id last old → IsWritten id last old new
 after_write {T} {old} {new} {id} {last} here is = record {
@@ -65,6 +85,8 @@ after_unlink {T} {old} {new} {id} {last} sound here is =
       others = written.others;
       linked = λ other differs. ap (is_in other) written.linked ∙ is_in-without_other id other old.linked differs;
       first = λ e. written.linked ∙ at old.linked sound.once e;
+      fewer = λ e. omega (arith, ap length written.linked, length-without id old.linked sound.once e);
+      already = λ e. written.linked ∙ without-IsOff id old.linked (IsOff-is_in id old.linked e);
       len = written.len;
       spare = written.spare;
     }

@@ -1,6 +1,11 @@
 -- What a contract sees of an arena, and what each call makes of it.
-use Rattle.std.specs.Prelude.{◌≡◌, ◌≢◌, ℕ, ◌+◌, ◌-◌, List, [], ◌∷◌, ◌++◌, length, drop, map, filter_map, Option, Some, None, IsSome, slice_index_or, slice_set}
+use Rattle.std.specs.Prelude.{◌≡◌, ◌≢◌, ℕ, ◌+◌, ◌-◌, ◌<◌, ◌≤◌, Bool, true, nat_eq, ◌==◌, List, [], ◌∷◌, ◌++◌, length, drop, map, filter_map, Option, Some, None, IsSome, slice_index_or, slice_set}
+use Rattle.std.specs.List.{list_any, IsDistinct}
 use Rattle.std.specs.Option.{option_map}
+
+-- slots have numbers below this one, so there are no more
+abbrev pub slot_limit : ℕ
+slot_limit = 0xffff_fffe
 
 -- what each slot has, a value or nothing; the vacated slots, the latest first; and how many inserts need
 -- no memory
@@ -23,6 +28,21 @@ module _ {T : Type 0} where
 
   abbrev pub occupied_len : ArenaState T → ℕ
   occupied_len arena = length (values arena)
+
+  abbrev pub is_vacated : ℕ → ArenaState T → Bool
+  is_vacated id arena = list_any (λ other. other == id) arena.vacated
+
+  -- what holds of every arena: the vacated slots are those of its slots that have no value, each stands there
+  -- once, and is room; and values and room together are no more than there are numbers of slots
+  pub record IsSoundArena (arena : ArenaState T) : Type 0 where
+    pub here : (id : ℕ) → IsSome (value_at id arena) → id < length arena.slots
+    pub within : (id : ℕ) → is_vacated id arena ≡ true → id < length arena.slots
+    pub vacant : (id : ℕ) → is_vacated id arena ≡ true → value_at id arena ≡ None
+    pub only : (id : ℕ) → id < length arena.slots → value_at id arena ≡ None → is_vacated id arena ≡ true
+    pub once : IsDistinct nat_eq arena.vacated
+    pub all : occupied_len arena + length arena.vacated ≡ length arena.slots
+    pub room : length arena.slots ≤ occupied_len arena + arena.spare
+    pub numbered : occupied_len arena + arena.spare ≤ slot_limit
 
   -- each value is still in its slot
   abbrev pub KeepsValues : ArenaState T → ArenaState T → Type 0

@@ -1,15 +1,12 @@
 -- How a link to a slot is kept in 32 bits.
 use Rattle.std.specs.Prelude.{◌≢◌, ℕ, ◌==◌, if◌then◌else◌, Option, Some, None}
-
--- slots have numbers below this one, so there are no more; in a link it stands for a node that is detached
-abbrev pub slot_limit : ℕ
-slot_limit = 0xffff_fffe
+use Rattle.band_line.specs.Arena.{slot_limit}
 
 -- the number of a link to no slot
 abbrev pub nobody : ℕ
 nobody = 0xffff_ffff
 
--- a number that a link may have
+-- a number that a link may have: the one that is left out stands for a node that is detached
 abbrev pub IsLink : ℕ → Type 0
 IsLink number = number ≢ slot_limit
 

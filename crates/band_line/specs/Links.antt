@@ -1,6 +1,7 @@
 -- What the links of a node stand for.
 use Rattle.std.specs.Prelude.{ℕ, ◌==◌, if◌then◌else◌, Option, Some, None}
-use Rattle.band_line.specs.Link.{slot_limit, link_of}
+use Rattle.band_line.specs.Arena.{slot_limit}
+use Rattle.band_line.specs.Link.{link_of}
 use Rattle.band_line.specs.declared.link.Between.{Between}
 
 -- the slots that a node stands between, if it is linked

@@ -1,7 +1,6 @@
 -- How an arena keeps its slots. No public clause cites this page.
 use Rattle.std.specs.Prelude.{◌≡◌, ℕ, zero, suc, ◌+◌, ◌-◌, ◌≤◌, List, [], ◌∷◌, map, length, filter_map, Option, Some, None, IsSome, unwrap_or, slice_index_or}
-use Rattle.band_line.specs.Link.{slot_limit}
-use Rattle.band_line.specs.Arena.{ArenaState}
+use Rattle.band_line.specs.Arena.{ArenaState, slot_limit}
 use Rattle.band_line.specs.declared.arena.Slot.{Slot}
 use Rattle.band_line.specs.declared.arena.Slot.TheVariants.{Vacant, Occupied}
 

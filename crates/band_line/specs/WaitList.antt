@@ -1,5 +1,5 @@
 -- What a contract sees of a wait list, and what each call makes of it.
-use Rattle.std.specs.Prelude.{◌≡◌, ◌≢◌, ℕ, Bool, true, false, not, nat_eq, ◌==◌, List, [], ◌∷◌, ◌++◌, filter, drop, Option, Some, None, IsSome, MatchOption, slice_get}
+use Rattle.std.specs.Prelude.{◌≡◌, ◌≢◌, ℕ, ◌+◌, Bool, true, false, not, nat_eq, ◌==◌, List, [], ◌∷◌, ◌++◌, length, filter, drop, Option, Some, None, IsSome, MatchOption, slice_get}
 use Rattle.std.specs.List.{list_any, IsDistinct}
 use Rattle.std.specs.Option.{option_and_then}
 use Rattle.std.specs.Borrow.{MutBor}
@@ -77,7 +77,8 @@ module _ {T : Type 0} where
     pub len : occupied_len new.nodes ≡ occupied_len old.nodes
     pub spare : new.nodes.spare ≡ old.nodes.spare
 
-  -- a node answered true, and this is the value that was left in it last
+  -- a node answered true, and this is the value that was left in it last. Where it was detached already, the
+  -- line is as it was
   pub record IsUnlinked (id : ℕ) (last : T) (old new : WaitListState T) : Type 0 where
     pub state : new ≡ unlinked id last old
     pub detached : IsDetached id new
@@ -85,6 +86,8 @@ module _ {T : Type 0} where
     pub others : KeepsOthers id old.nodes new.nodes
     pub linked : (other : ℕ) → other ≢ id → is_linked other new ≡ is_linked other old
     pub first : first_waiter old ≡ Some id → new.linked ≡ drop 1 old.linked
+    pub fewer : is_linked id old ≡ true → length new.linked + 1 ≡ length old.linked
+    pub already : is_linked id old ≡ false → new.linked ≡ old.linked
     pub len : occupied_len new.nodes ≡ occupied_len old.nodes
     pub spare : new.nodes.spare ≡ old.nodes.spare
 

@@ -18,7 +18,8 @@ FirstRegisters waker old (Err error) new token = (new ≡ old) × (token ≡ Non
 
 -- a later one leaves its waker in place of the old one
 abbrev pub Registers :
-    Option ℕ → Waker → ArenaState Waker → Result (Option Waker) AllocError → ArenaState Waker → Option ℕ → Type 0
+    Option ℕ → Waker → ArenaState Waker → Result (Option Waker) AllocError → ArenaState Waker → Option ℕ
+    → Type 0
 Registers None waker old result new token = FirstRegisters waker old result new token
 Registers (Some id) waker old result new token =
     (result ≡ Ok (replaced waker (value_at id old)))

@@ -1,9 +1,8 @@
 //! The arena: values in slots whose numbers stay theirs.
-ghost use Rattle.std.specs.Prelude.{◌≡◌, ◌≢◌, ℕ, ◌+◌, ◌-◌, ◌<◌, ◌≤◌, ◌↔◌, Some, None, length, option_copied, IsTrue, IsSome, is_some, IsOk, IsErr, OnOk, OnErr, IfOk};
+ghost use Rattle.std.specs.Prelude.{◌≡◌, ◌≢◌, ℕ, ◌+◌, ◌-◌, ◌*◌, ◌<◌, ◌≤◌, ◌↔◌, [], Some, None, length, option_copied, IsTrue, IsSome, is_some, IsOk, IsErr, OnOk, OnErr, IfOk, min, max};
 ghost use Rattle.std.specs.Option.{option_copied_mut};
 ghost use Rattle.std.specs.Borrow.{sem, Lends};
-ghost use Rattle.band_line.specs.Arena.{IsRewritten, with_value, empty_arena, value_at, KeepsValues, KeepsOthers, values, occupied_len, next_slot, inserted, removed, with_room};
-ghost use Rattle.band_line.specs.Link.{slot_limit};
+ghost use Rattle.band_line.specs.Arena.{IsSoundArena, IsRewritten, with_value, empty_arena, value_at, KeepsValues, KeepsOthers, values, occupied_len, next_slot, inserted, removed, with_room, slot_limit};
 ghost use Rattle.band_line.specs.Slots.{value_of};
 
 use crate::link::Link;
@@ -81,7 +80,8 @@ impl<T> Arena<T> {
     /// An arena without slots, with room for `n` values.
     pub fn with_capacity(alloc: Global, n: u64) -> Result<Arena<T>, AllocError>
         ensures empty { IfOk result (λ arena. arena ≡ with_room arena.spare empty_arena) }
-        ensures room { IfOk result (λ arena. n ≤ arena.spare) }
+        ensures room { IfOk result (λ arena. arena.spare ≡ n) }
+        ensures none { n ≡ 0 → IsOk result }
         ensures limit { slot_limit < n → IsErr result }
     {
         if n > SlotId::LIMIT {
@@ -102,7 +102,13 @@ impl<T> Arena<T> {
         ensures no_less { self.old.spare ≤ self.new.spare }
         ensures err { OnErr result (self.new ≡ self.old) }
         ensures enough { n ≤ self.old.spare → IsOk result }
+        ensures no_more { n ≤ self.old.spare → self.new ≡ self.old }
+        ensures twofold { OnOk result (self.old.spare < n →
+            min slot_limit (2 * (occupied_len self.old + self.old.spare)) ≤ occupied_len self.old + self.new.spare) }
+        ensures most { OnOk result (occupied_len self.old + self.new.spare
+            ≤ max (occupied_len self.old + n) (2 * (occupied_len self.old + self.old.spare))) }
         ensures limit { slot_limit < occupied_len self.old + n → IsErr result }
+        ensures sound { IsSoundArena self.new }
     {
         let capacity = self.slots.capacity();
         let len = u64::from(self.len);
@@ -120,13 +126,16 @@ impl<T> Arena<T> {
     pub fn spare(&self) -> u64
         ensures spare { result ≡ self.now.spare }
         ensures limit { occupied_len self.now + result ≤ slot_limit }
+        ensures sound { IsSoundArena self.now }
     {
         self.slots.capacity() as u64 - u64::from(self.len)
     }
 
     /// How many values there are.
     pub fn len(&self) -> u64
-        ensures { result ≡ occupied_len self.now }
+        ensures len { result ≡ occupied_len self.now }
+        ensures below { result ≤ slot_limit }
+        ensures sound { IsSoundArena self.now }
     {
         u64::from(self.len)
     }
@@ -148,6 +157,7 @@ impl<T> Arena<T> {
         ensures others { KeepsOthers result self.old self.new }
         ensures keeps { KeepsValues self.old self.new }
         ensures len { occupied_len self.new ≡ occupied_len self.old + 1 }
+        ensures sound { IsSoundArena self.new }
         ensures visits { steps.new ≡ steps.old + 1 }
     {
         steps.tick();
@@ -229,6 +239,7 @@ impl<T> Arena<T> {
         ensures vacant { value_at id self.new ≡ None }
         ensures others { KeepsOthers id self.old self.new }
         ensures len { occupied_len self.new + 1 ≡ occupied_len self.old }
+        ensures sound { IsSoundArena self.new }
         ensures visits { steps.new ≡ steps.old + 1 }
     {
         steps.tick();
@@ -248,6 +259,18 @@ impl<T> Arena<T> {
         let alloc = *self.slots.allocator();
         let arena = mem::replace(self, Arena::new(alloc));
         ArenaIter::new(arena.slots)
+    }
+
+    /// Ends an arena without slots, also where its values may not be dropped.
+    pub(crate) fn destroy_empty(self)
+        requires { self.slots ≡ [] }
+    {
+        let Arena {
+            slots,
+            vacant: _,
+            len: _,
+        } = self;
+        slots.destroy_empty();
     }
 }
 

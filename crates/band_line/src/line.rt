@@ -1,10 +1,9 @@
 //! Nodes of which some are linked to a line.
-ghost use Rattle.std.specs.Prelude.{◌≡◌, ◌≢◌, ℕ, ◌+◌, ◌<◌, ◌≤◌, ◌↔◌, false, true, [], Some, None, IsTrue, IsSome, IfSome, OnOk, OnErr, IsOk, IsErr, MatchOption, is_some, if◌then◌else◌};
+ghost use Rattle.std.specs.Prelude.{◌≡◌, ◌≢◌, ℕ, ◌+◌, ◌*◌, ◌<◌, ◌≤◌, ◌↔◌, false, true, [], Some, None, IsTrue, IsSome, IfSome, IfNone, min, max, OnOk, OnErr, IsOk, IsErr, IfOk, MatchOption, is_some, if◌then◌else◌};
 ghost use Rattle.std.specs.Option.{ForSome};
 ghost use Rattle.std.specs.Fn.{FnOnceTakesAtMut};
 ghost use Rattle.std.specs.Borrow.{sem};
-ghost use Rattle.band_line.specs.Arena.{KeepsValues, KeepsOthers, occupied_len, next_slot};
-ghost use Rattle.band_line.specs.Link.{slot_limit};
+ghost use Rattle.band_line.specs.Arena.{IsSoundArena, KeepsValues, KeepsOthers, occupied_len, next_slot, slot_limit};
 ghost use Rattle.band_line.specs.Visits.{Visits};
 ghost use Rattle.band_line.specs.WaitList.{Joins, IsWritten, with_waiter, empty_list, waiter_at, is_linked, first_waiter, IsWaitList, first_value, pushed_front, pushed_back, removed_waiter, with_list_room, AnswersLeaving};
 
@@ -57,20 +56,66 @@ impl<T> Line<T> {
         ensures no_less { self.old.nodes.spare ≤ self.new.nodes.spare }
         ensures err { OnErr result (self.new ≡ self.old) }
         ensures enough { n ≤ self.old.nodes.spare → IsOk result }
+        ensures no_more { n ≤ self.old.nodes.spare → self.new ≡ self.old }
+        ensures twofold { OnOk result (self.old.nodes.spare < n →
+            min slot_limit (2 * (occupied_len self.old.nodes + self.old.nodes.spare))
+            ≤ occupied_len self.old.nodes + self.new.nodes.spare) }
+        ensures most { OnOk result (occupied_len self.old.nodes + self.new.nodes.spare
+            ≤ max (occupied_len self.old.nodes + n) (2 * (occupied_len self.old.nodes + self.old.nodes.spare))) }
         ensures limit { slot_limit < occupied_len self.old.nodes + n → IsErr result }
+        ensures sound { IsWaitList self.new }
+        ensures nodes { IsSoundArena self.new.nodes }
     {
         self.nodes.reserve(n)
+    }
+
+    /// A line without nodes in memory of its own, with room for `n`.
+    pub(crate) fn boxed(alloc: Global, n: u64) -> Result<Box<Line<T>>, AllocError>
+        ensures empty { IfOk result (λ line. line.value ≡ with_list_room line.value.nodes.spare empty_list) }
+        ensures room { IfOk result (λ line. line.value.nodes.spare ≡ n) }
+        ensures limit { slot_limit < n → IsErr result }
+        ensures sound { IfOk result (λ line. IsWaitList line.value) }
+        ensures nodes { IfOk result (λ line. IsSoundArena line.value.nodes) }
+    {
+        match Box::new(alloc, Line::new(alloc)) {
+            Ok(mut line) => match line.reserve(n) {
+                Ok(()) => Ok(line),
+                Err(error) => {
+                    Box::into_inner(line).destroy_empty();
+                    Err(error)
+                }
+            },
+            Err(refused) => {
+                refused.value.destroy_empty();
+                Err(AllocError)
+            }
+        }
+    }
+
+    /// Ends a line without slots, also where its values may not be dropped.
+    fn destroy_empty(self)
+        requires { self.nodes.slots ≡ [] }
+    {
+        let Line {
+            nodes,
+            front: _,
+            back: _,
+        } = self;
+        nodes.destroy_empty();
     }
 
     pub(crate) fn spare(&self) -> u64
         ensures spare { result ≡ self.now.nodes.spare }
         ensures limit { occupied_len self.now.nodes + result ≤ slot_limit }
+        ensures sound { IsWaitList self.now }
+        ensures nodes { IsSoundArena self.now.nodes }
     {
         self.nodes.spare()
     }
 
     pub(crate) fn occupied_len(&self) -> u64
-        ensures { result ≡ occupied_len self.now.nodes }
+        ensures len { result ≡ occupied_len self.now.nodes }
+        ensures below { result ≤ slot_limit }
     {
         self.nodes.len()
     }
@@ -78,6 +123,8 @@ impl<T> Line<T> {
     pub(crate) fn first(&self) -> Option<SlotId>
         ensures first { result ≡ first_waiter self.now }
         ensures here { IfSome result (λ id. IsSome (waiter_at id self.now)) }
+        ensures linked { IfSome result (λ id. is_linked id self.now ≡ true) }
+        ensures nobody { IfNone result (self.now.linked ≡ []) }
         ensures sound { IsWaitList self.now }
     {
         self.front.get()
@@ -100,7 +147,8 @@ impl<T> Line<T> {
         ensures keeps { KeepsValues self.old.nodes self.new.nodes }
         ensures joins { Joins result self.old self.new }
         ensures len { occupied_len self.new.nodes ≡ occupied_len self.old.nodes + 1 }
-        ensures sound { IsWaitList self.old }
+        ensures sound { IsWaitList self.new }
+        ensures nodes { IsSoundArena self.new.nodes }
         ensures visits { Visits 1 2 steps.old steps.new }
     {
         let next = self.front;
@@ -122,7 +170,8 @@ impl<T> Line<T> {
         ensures keeps { KeepsValues self.old.nodes self.new.nodes }
         ensures joins { Joins result self.old self.new }
         ensures len { occupied_len self.new.nodes ≡ occupied_len self.old.nodes + 1 }
-        ensures sound { IsWaitList self.old }
+        ensures sound { IsWaitList self.new }
+        ensures nodes { IsSoundArena self.new.nodes }
         ensures visits { Visits 1 2 steps.old steps.new }
     {
         let prev = self.back;
@@ -161,6 +210,7 @@ impl<T> Line<T> {
             (steps.new ≡ steps.old + 1)
             (λ _. Visits 1 4 steps.old steps.new) }
         ensures first { first_waiter self.old ≡ Some id → steps.new ≤ steps.old + 3 }
+        ensures already { is_linked id self.old ≡ false → steps.new ≤ steps.old + 2 }
     {
         let gap = self.nodes.ask(id, f, steps)?;
         self.nodes
@@ -176,7 +226,8 @@ impl<T> Line<T> {
         ensures vacant { waiter_at id self.new ≡ None }
         ensures others { KeepsOthers id self.old.nodes self.new.nodes }
         ensures len { occupied_len self.new.nodes + 1 ≡ occupied_len self.old.nodes }
-        ensures sound { IsWaitList self.old }
+        ensures sound { IsWaitList self.new }
+        ensures nodes { IsSoundArena self.new.nodes }
         ensures visits { steps.new ≡ steps.old + 1 }
     {
         let Node { links: _, value } = self.nodes.remove(id, steps);

@@ -23,6 +23,8 @@ pub(crate) struct Node<T> {
 
 const _: () = prove!(size_of::<Node<u64>>() == 16);
 
+const _: () = prove!(size_of::<Slot<Node<u64>>>() == 24);
+
 const _: () = prove!(size_of::<Slot<Node<(u64, u64, Option<Waker>)>>>() == 48);
 
 impl<T> Node<T> {

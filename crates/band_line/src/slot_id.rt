@@ -1,6 +1,6 @@
 //! The number of a slot.
 ghost use Rattle.std.specs.Prelude.{◌≡◌, ◌<◌};
-ghost use Rattle.band_line.specs.Link.{slot_limit};
+ghost use Rattle.band_line.specs.Arena.{slot_limit};
 
 use std::marker::Model;
 
@@ -13,7 +13,7 @@ pub struct SlotId {
 
 impl Model for SlotId {
     ghost use Rattle.std.specs.Prelude.{ℕ, ◌<◌};
-    ghost use Rattle.band_line.specs.Link.{slot_limit};
+    ghost use Rattle.band_line.specs.Arena.{slot_limit};
 
     ghost Value = { ℕ };
 

@@ -1,19 +1,19 @@
 //! The wait list: waiters in a line, which stay readable once they are detached.
-ghost use Rattle.std.specs.Prelude.{◌≡◌, ◌≢◌, ℕ, ◌+◌, ◌<◌, ◌≤◌, ◌↔◌, true, [], Some, None, IsTrue, IsSome, IfSome, OnOk, OnErr, IsOk, IsErr, MatchOption, is_some, if◌then◌else◌};
+ghost use Rattle.std.specs.Prelude.{◌≡◌, ◌≢◌, ℕ, ◌+◌, ◌*◌, ◌<◌, ◌≤◌, ◌↔◌, false, true, [], Some, None, IsTrue, IsSome, IfSome, IfNone, min, max, OnOk, OnErr, IsOk, IsErr, MatchOption, is_some, if◌then◌else◌};
 ghost use Rattle.std.specs.Option.{ForSome};
 ghost use Rattle.std.specs.Fn.{FnOnceTakesAtMut};
 ghost use Rattle.std.specs.Borrow.{sem, Lends};
 ghost use Rattle.std.specs.contracts.option.Option.{the_row};
-ghost use Rattle.band_line.specs.Arena.{KeepsValues, KeepsOthers, occupied_len, next_slot};
-ghost use Rattle.band_line.specs.Link.{slot_limit};
+ghost use Rattle.band_line.specs.Arena.{IsSoundArena, KeepsValues, KeepsOthers, occupied_len, next_slot, slot_limit};
 ghost use Rattle.band_line.specs.Visits.{Visits};
-ghost use Rattle.band_line.specs.WaitList.{Joins, IsWritten, with_waiter, empty_list, waiter_at, first_waiter, IsWaitList, IsDetached, first_value, pushed_front, pushed_back, removed_waiter, with_list_room, AnswersLeaving};
+ghost use Rattle.band_line.specs.WaitList.{Joins, IsWritten, with_waiter, empty_list, waiter_at, is_linked, first_waiter, IsWaitList, IsDetached, first_value, pushed_front, pushed_back, removed_waiter, with_list_room, AnswersLeaving};
 
 use crate::SlotId;
 use crate::line::Line;
 use band_base::Steps;
 use std::alloc::{AllocError, Global};
 use std::marker::Model;
+use std::mem;
 use std::sync::ledger::Ledger;
 
 /// The number of a node of a wait list, which it keeps until it is removed. Ports `WaiterId`.
@@ -66,26 +66,31 @@ impl<T> WaitList<T> {
     /// Makes room, so that `n` pushes need no memory. Where it must grow, it grows at least twofold,
     /// up to the most nodes that there may be.
     pub fn reserve(&mut self, n: u64) -> Result<(), AllocError>
-    where
-        T: Drop,
         ensures same { self.new ≡ with_list_room self.new.nodes.spare self.old }
         ensures room { OnOk result (n ≤ self.new.nodes.spare) }
         ensures no_less { self.old.nodes.spare ≤ self.new.nodes.spare }
         ensures err { OnErr result (self.new ≡ self.old) }
         ensures enough { n ≤ self.old.nodes.spare → IsOk result }
+        ensures no_more { n ≤ self.old.nodes.spare → self.new ≡ self.old }
+        ensures twofold { OnOk result (self.old.nodes.spare < n →
+            min slot_limit (2 * (occupied_len self.old.nodes + self.old.nodes.spare))
+            ≤ occupied_len self.old.nodes + self.new.nodes.spare) }
+        ensures most { OnOk result (occupied_len self.old.nodes + self.new.nodes.spare
+            ≤ max (occupied_len self.old.nodes + n) (2 * (occupied_len self.old.nodes + self.old.nodes.spare))) }
         ensures limit { slot_limit < occupied_len self.old.nodes + n → IsErr result }
+        ensures sound { IsWaitList self.new }
+        ensures nodes { IsSoundArena self.new.nodes }
     {
         if n <= self.spare() {
             return Ok(());
         }
-        match &mut self.line {
-            Some(line) => line.reserve(n),
-            None => {
-                let mut line = Box::new(self.alloc, Line::new(self.alloc))?;
-                line.reserve(n)?;
-                self.line = Some(line);
-                Ok(())
-            }
+        if let Some(line) = &mut self.line {
+            return line.reserve(n);
+        }
+        let line = Line::boxed(self.alloc, n)?;
+        match mem::replace(&mut self.line, Some(line)) {
+            None => Ok(()),
+            Some(_) => unreachable!(),
         }
     }
 
@@ -93,6 +98,8 @@ impl<T> WaitList<T> {
     pub fn spare(&self) -> u64
         ensures spare { result ≡ self.now.nodes.spare }
         ensures limit { occupied_len self.now.nodes + result ≤ slot_limit }
+        ensures sound { IsWaitList self.now }
+        ensures nodes { IsSoundArena self.now.nodes }
     {
         match &self.line {
             Some(line) => line.spare(),
@@ -102,7 +109,8 @@ impl<T> WaitList<T> {
 
     /// How many nodes there are, linked and detached.
     pub fn occupied_len(&self) -> u64
-        ensures { result ≡ occupied_len self.now.nodes }
+        ensures len { result ≡ occupied_len self.now.nodes }
+        ensures below { result ≤ slot_limit }
     {
         match &self.line {
             Some(line) => line.occupied_len(),
@@ -121,6 +129,8 @@ impl<T> WaitList<T> {
     pub fn first(&self) -> Option<WaiterId>
         ensures first { result ≡ first_waiter self.now }
         ensures here { IfSome result (λ id. IsSome (waiter_at id self.now)) }
+        ensures linked { IfSome result (λ id. is_linked id self.now ≡ true) }
+        ensures nobody { IfNone result (self.now.linked ≡ []) }
         ensures sound { IsWaitList self.now }
     {
         match &self.line {
@@ -153,7 +163,8 @@ impl<T> WaitList<T> {
         ensures keeps { KeepsValues self.old.nodes self.new.nodes }
         ensures joins { Joins result self.old self.new }
         ensures len { occupied_len self.new.nodes ≡ occupied_len self.old.nodes + 1 }
-        ensures sound { IsWaitList self.old }
+        ensures sound { IsWaitList self.new }
+        ensures nodes { IsSoundArena self.new.nodes }
         ensures visits { Visits 1 2 steps.old steps.new }
     {
         WaiterId {
@@ -172,7 +183,8 @@ impl<T> WaitList<T> {
         ensures keeps { KeepsValues self.old.nodes self.new.nodes }
         ensures joins { Joins result self.old self.new }
         ensures len { occupied_len self.new.nodes ≡ occupied_len self.old.nodes + 1 }
-        ensures sound { IsWaitList self.old }
+        ensures sound { IsWaitList self.new }
+        ensures nodes { IsSoundArena self.new.nodes }
         ensures visits { Visits 1 2 steps.old steps.new }
     {
         WaiterId {
@@ -212,6 +224,7 @@ impl<T> WaitList<T> {
             (steps.new ≡ steps.old + 1)
             (λ _. Visits 1 4 steps.old steps.new) }
         ensures first { first_waiter self.old ≡ Some id → steps.new ≤ steps.old + 3 }
+        ensures already { is_linked id self.old ≡ false → steps.new ≤ steps.old + 2 }
     {
         made(&mut self.line).unlink(id.slot, f, steps)
     }
@@ -248,7 +261,8 @@ impl<T> WaitList<T> {
         ensures vacant { waiter_at id self.new ≡ None }
         ensures others { KeepsOthers id self.old.nodes self.new.nodes }
         ensures len { occupied_len self.new.nodes + 1 ≡ occupied_len self.old.nodes }
-        ensures sound { IsWaitList self.old }
+        ensures sound { IsWaitList self.new }
+        ensures nodes { IsSoundArena self.new.nodes }
         ensures visits { steps.new ≡ steps.old + 1 }
     {
         made(&mut self.line).remove(id.slot, steps)

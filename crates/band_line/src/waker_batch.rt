@@ -28,6 +28,8 @@ impl Model for WakerBatch {
     ghost invariant = { λ batch. length batch.inline.items ≢ 32 → batch.spilled.items ≡ [] };
 }
 
+const _: () = prove!(WakerBatch::STACK_SIZE == 32);
+
 impl WakerBatch {
     /// How many wakers need no memory.
     pub const STACK_SIZE: usize = 32;
@@ -63,7 +65,7 @@ impl WakerBatch {
         Ok(())
     }
 
-    /// Adds all to the wakers to wake, in their order. The batch is empty. The code of today keeps its memory.
+    /// Adds all to the wakers to wake, in their order. The batch is empty. It keeps its memory, which is not promised.
     pub fn wake_all(&mut self, out: &mut WakeLine)
         requires { length self.old ≤ out.old.spare }
         ensures woken { out.new ≡ pushed_all self.old out.old }

@@ -1,8 +1,7 @@
 //! Wakers that are registered, each under a token.
 ghost use Rattle.std.specs.Prelude.{◌≡◌, ◌≢◌, ℕ, ◌+◌, ◌<◌, ◌≤◌, Some, None, IsSome, IsOk, IsErr, IfOk, OnOk, IsNone, is_some, is_ok, if◌then◌else◌, length};
 ghost use Rattle.std.specs.Option.{ForSome, option_and_then, option_map_or};
-ghost use Rattle.band_line.specs.Arena.{empty_arena, value_at, KeepsValues, KeepsOthers, values, occupied_len, removed, with_room};
-ghost use Rattle.band_line.specs.Link.{slot_limit};
+ghost use Rattle.band_line.specs.Arena.{IsSoundArena, empty_arena, value_at, KeepsValues, KeepsOthers, values, occupied_len, removed, with_room, slot_limit};
 ghost use Rattle.band_line.specs.Wakers.{pushed_all};
 ghost use Rattle.band_line.specs.WakerSet.{Registers};
 
@@ -56,7 +55,8 @@ impl WakerSet {
     /// No waker, with room for `n`.
     pub fn with_capacity(alloc: Global, n: u64) -> Result<WakerSet, AllocError>
         ensures empty { IfOk result (λ set. set ≡ with_room set.spare empty_arena) }
-        ensures room { IfOk result (λ set. n ≤ set.spare) }
+        ensures room { IfOk result (λ set. set.spare ≡ n) }
+        ensures none { n ≡ 0 → IsOk result }
         ensures limit { slot_limit < n → IsErr result }
     {
         Ok(WakerSet {
@@ -66,7 +66,9 @@ impl WakerSet {
 
     /// How many wakers are registered.
     pub fn len(&self) -> u64
-        ensures { result ≡ occupied_len self.now }
+        ensures len { result ≡ occupied_len self.now }
+        ensures below { result ≤ slot_limit }
+        ensures sound { IsSoundArena self.now }
     {
         self.wakers.len()
     }
@@ -87,6 +89,8 @@ impl WakerSet {
         ensures len { OnOk result
             (occupied_len self.new ≡ occupied_len self.old + (if is_some token.old then 0 else 1)) }
         ensures enough { 0 < self.old.spare → IsOk result }
+        ensures no_more { 0 < self.old.spare →
+            self.new.spare + (if is_some token.old then 0 else 1) ≡ self.old.spare }
         ensures visits { steps.new ≡ steps.old + (if is_ok result then 1 else 0) }
     {
         match token {

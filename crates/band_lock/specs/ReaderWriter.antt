@@ -1,5 +1,5 @@
-use Rattle.std.specs.Prelude.{ℕ, ◌<◌}
-use Rattle.band_sem.specs.Semaphore.{SemaphoreState, new_state}
+use Rattle.std.specs.Prelude.{◌≡◌, ℕ, ◌<◌}
+use Rattle.band_sem.specs.Semaphore.{SemaphoreState, IsLike, new_state}
 use Rattle.band_sem.specs.Whole.{IsWhole}
 
 -- what a contract sees of a reader-writer lock: the most readers at a time, and its shares, of which a reader has one and a
@@ -11,6 +11,11 @@ pub record ReaderWriter : Type 0 where
 -- what becomes of its shares
 abbrev pub on_shares : (SemaphoreState → SemaphoreState) → ReaderWriter → ReaderWriter
 on_shares change lock = record lock { shares = change lock.shares }
+
+-- two locks whose shares differ at most in the order of those granted
+pub record IsLikeLock (one other : ReaderWriter) : Type 0 where
+  pub max : other.max ≡ one.max
+  pub shares : IsLike one.shares other.shares
 
 -- one for so many readers at a time, which nobody has
 abbrev pub new_lock : ℕ → ℕ → ReaderWriter

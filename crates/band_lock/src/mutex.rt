@@ -4,7 +4,7 @@ ghost use Rattle.band_balance.specs.Line.{is_served};
 ghost use Rattle.band_sem.specs.Laws.{KeepsOrder, Leaves};
 ghost use Rattle.band_sem.specs.Permit.{new_permit};
 ghost use Rattle.band_sem.specs.Request.{new_request};
-ghost use Rattle.band_sem.specs.Semaphore.{IsLawful, IsOwn, Polls, new_state, taken, given_back, cancelled, TakesWake};
+ghost use Rattle.band_sem.specs.Semaphore.{IsLike, IsLawful, IsOwn, Polls, new_state, taken, given_back, cancelled, TakesWake};
 ghost use Rattle.band_sem.specs.Whole.{IsWhole};
 
 use band_base::{Poll, PollError, Steps, Waker};
@@ -109,7 +109,7 @@ impl MutexState {
         requires number { g.of ≡ self.old.number }
         requires held { g.count ≤ self.old.held }
         ensures one { g.count ≡ 1 }
-        ensures state { self.new ≡ given_back 1 self.old }
+        ensures state { IsLike (given_back 1 self.old) self.new }
         ensures order { KeepsOrder self.old.line self.new.line }
         ensures lawful { IsLawful self.new }
         ensures whole { IsWhole 1 self.new }
@@ -160,7 +160,7 @@ impl LockRequest {
     pub fn cancel<L: Ledger>(self, m: &mut MutexState, steps: &mut Steps<L>)
         requires number { self.of ≡ m.old.number }
         requires own { IsOwn self.stage self.size m.old.line }
-        ensures state { m.new ≡ cancelled self.stage m.old }
+        ensures state { IsLike (cancelled self.stage m.old) m.new }
         ensures others { Leaves self.stage m.old m.new }
         ensures order { KeepsOrder m.old.line m.new.line }
         ensures lawful { IsLawful m.new }

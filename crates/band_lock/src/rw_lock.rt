@@ -5,7 +5,7 @@ ghost use Rattle.band_sem.specs.Laws.{KeepsOrder, Leaves};
 ghost use Rattle.band_sem.specs.Permit.{new_permit};
 ghost use Rattle.band_sem.specs.Request.{new_request};
 ghost use Rattle.band_sem.specs.Semaphore.{IsLawful, IsOwn, Polls, taken, given_back, cancelled, TakesWake};
-ghost use Rattle.band_lock.specs.ReaderWriter.{new_lock, on_shares, IsWholeLock};
+ghost use Rattle.band_lock.specs.ReaderWriter.{new_lock, on_shares, IsLikeLock, IsWholeLock};
 
 use band_base::{Poll, PollError, Steps, Waker};
 use band_sem::{Acquire, Semaphore, SemaphorePermit};
@@ -185,7 +185,7 @@ impl RwLockState {
         requires number { a.of ≡ self.old.shares.number }
         requires held { a.count ≤ self.old.shares.held }
         ensures one { a.count ≡ 1 }
-        ensures state { self.new ≡ on_shares (given_back 1) self.old }
+        ensures state { IsLikeLock (on_shares (given_back 1) self.old) self.new }
         ensures order { KeepsOrder self.old.shares.line self.new.shares.line }
         ensures lawful { IsLawful self.new.shares }
         ensures whole { IsWholeLock self.new }
@@ -198,7 +198,7 @@ impl RwLockState {
         requires number { a.of ≡ self.old.shares.number }
         requires held { a.count ≤ self.old.shares.held }
         requires all { a.count ≡ self.old.max }
-        ensures state { self.new ≡ on_shares (given_back self.old.max) self.old }
+        ensures state { IsLikeLock (on_shares (given_back self.old.max) self.old) self.new }
         ensures order { KeepsOrder self.old.shares.line self.new.shares.line }
         ensures lawful { IsLawful self.new.shares }
         ensures whole { IsWholeLock self.new }
@@ -212,7 +212,7 @@ impl RwLockState {
         requires held { a.count ≤ self.old.shares.held }
         requires all { a.count ≡ self.old.max }
         ensures access { result ≡ new_permit a.of 1 }
-        ensures state { self.new ≡ on_shares (given_back (self.old.max - 1)) self.old }
+        ensures state { IsLikeLock (on_shares (given_back (self.old.max - 1)) self.old) self.new }
         ensures order { KeepsOrder self.old.shares.line self.new.shares.line }
         ensures lawful { IsLawful self.new.shares }
         ensures whole { IsWholeLock self.new }
@@ -266,7 +266,7 @@ impl ReadRequest {
     pub fn cancel<L: Ledger>(self, l: &mut RwLockState, steps: &mut Steps<L>)
         requires number { self.of ≡ l.old.shares.number }
         requires own { IsOwn self.stage self.size l.old.shares.line }
-        ensures state { l.new ≡ on_shares (cancelled self.stage) l.old }
+        ensures state { IsLikeLock (on_shares (cancelled self.stage) l.old) l.new }
         ensures others { Leaves self.stage l.old.shares l.new.shares }
         ensures order { KeepsOrder l.old.shares.line l.new.shares.line }
         ensures lawful { IsLawful l.new.shares }
@@ -317,7 +317,7 @@ impl WriteRequest {
     pub fn cancel<L: Ledger>(self, l: &mut RwLockState, steps: &mut Steps<L>)
         requires number { self.of ≡ l.old.shares.number }
         requires own { IsOwn self.stage self.size l.old.shares.line }
-        ensures state { l.new ≡ on_shares (cancelled self.stage) l.old }
+        ensures state { IsLikeLock (on_shares (cancelled self.stage) l.old) l.new }
         ensures others { Leaves self.stage l.old.shares l.new.shares }
         ensures order { KeepsOrder l.old.shares.line l.new.shares.line }
         ensures lawful { IsLawful l.new.shares }

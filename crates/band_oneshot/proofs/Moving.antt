@@ -11,7 +11,7 @@ use Rattle.band_oneshot.specs.declared.state.ReceiverStage.TheVariants as receiv
 use Rattle.band_oneshot.specs.declared.step.OneshotStep.{OneshotStep}
 use Rattle.band_oneshot.specs.declared.step.OneshotStep.TheVariants.{Add, FinalSwap, ReceiverLoad, Swap, PutWaker, TakeBack, TakeMessage}
 use Rattle.band_oneshot.specs.declared.word.TheConstants.{EMPTY, RECEIVING, AWAKING, MESSAGE, DISCONNECTED}
-use Rattle.band_oneshot.specs.Moves.{MovesMessage, is_place, moves, AddedIsAt, waker_in, Puts}
+use Rattle.band_oneshot.specs.Moves.{MovesMessage, is_place, moves, AddedIsAt, MovesWakerBy, waker_in, Puts, KeepsFoundWords}
 use Rattle.band_oneshot.specs.Sound.{IsSound}
 use Rattle.band_oneshot.specs.Step.{needs, does, after, after_all}
 use Rattle.band_oneshot.specs.Words.{is_senders, is_receivers, sender_makes, receiver_makes}
@@ -19,6 +19,16 @@ use Rattle.band_oneshot.proofs.Sound.{IsSound-after}
 
 pub MovesMessage-after : (s : OneshotStep) (c : OneshotState) → IsSound c → MovesMessage c.message (after s c).message
 MovesMessage-after s c h = grind arith
+
+pub MovesWakerBy-after : (s : OneshotStep) (c : OneshotState) → MovesWakerBy s c.waker (after s c).waker
+MovesWakerBy-after s c = grind arith
+
+pub KeepsFoundWords-after : (s : OneshotStep) (c : OneshotState) → IsSound c → KeepsFoundWords (is_senders s) c (after s c)
+KeepsFoundWords-after s c h = record {
+  message = λ own e. grind arith;
+  no_sender = λ own on e. grind arith;
+  no_receiver = λ own idle e. grind arith;
+}
 
 -- whether a message that is here can still go from there
 left_to_move : Place → Place → ℕ

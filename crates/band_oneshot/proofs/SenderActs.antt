@@ -43,16 +43,16 @@ module _ {T : Type 0} where
   idle_in : (m : Seated T) → IsIdle m → Idle (sender_of m.0)
   idle_in m h = record { stage = h.stage; message = h.message; waker = h.waker }
 
-  pub idle_words : (word : ℕ) (v : SenderView T) (r : ReceiverView) → Agree word v r → v.stage ≡ sender.Idle → IsIdleWord word
+  pub idle_words : (word : ℕ) (v : SenderView T) (r : ReceiverView T) → Agree word v r → v.stage ≡ sender.Idle → IsIdleWord word
   idle_words word v r h idle = grind arith
 
-  not_received : (word : ℕ) (v : SenderView T) (r : ReceiverView) → Agree word v r → v.stage ≡ sender.Idle → r.has_message ≡ false
+  not_received : (word : ℕ) (v : SenderView T) (r : ReceiverView T) → Agree word v r → v.stage ≡ sender.Idle → is_some r.message ≡ false
   not_received word v r h idle = grind arith
 
-  waker_left : (v : SenderView T) (r : ReceiverView) → Agree RECEIVING v r → is_left (waker_at r.waker (is_some v.waker)) ≡ true
+  waker_left : (v : SenderView T) (r : ReceiverView T) → Agree RECEIVING v r → is_left (waker_at r.waker (is_some v.waker)) ≡ true
   waker_left v r h = grind arith
 
-  finds : (word : ℕ) (h0 h1 : Home (Slot T)) (v : SenderView T) (r : ReceiverView) → Kept word h0 h1 v r → v.stage ≢ sender.Ended
+  finds : (word : ℕ) (h0 h1 : Home (Slot T)) (v : SenderView T) (r : ReceiverView T) → Kept word h0 h1 v r → v.stage ≢ sender.Ended
       → SenderFinds word v
   finds word h0 h1 v r k on = record { receiver = r; agree = k.agree; follows = k.found_by_sender on }
 
@@ -73,7 +73,7 @@ module _ {T : Type 0} where
         keeps,
         tt,
         sender_kept (counts_as SenderLoad word) word word h0 h1 h0 h1 v (sender_looked word v) r (refl, tt) k
-            (sender_looks word v idle.stage) refl k.agree.took k.agree.idle k.message k.waker,
+            (sender_looks word v idle.stage) refl (inl refl) k.agree.took k.agree.idle k.message k.waker,
         (finds word h0 h1 v r k (λ e. cc), refl),
       )
 
@@ -82,7 +82,7 @@ module _ {T : Type 0} where
   with_message message = (0, Some (held.Message message)) ∷ []
 
   -- the slot of a waker that was left, and of a message that was not sent
-  module _ (h0 h1 : Home (Slot T)) (v : SenderView T) (r : ReceiverView) (k : Kept RECEIVING h0 h1 v r) (none_yet : v.waker ≡ None) where
+  module _ (h0 h1 : Home (Slot T)) (v : SenderView T) (r : ReceiverView T) (k : Kept RECEIVING h0 h1 v r) (none_yet : v.waker ≡ None) where
     abbrev Left : Type 0
     Left = (w : Waker) × (r.waker ≡ slot.Left w) × (h1 ≡ some (Some (held.Waker w)))
 
@@ -107,7 +107,7 @@ module _ {T : Type 0} where
       gives,
       tt,
       sender_kept (counts_as Add EMPTY) EMPTY MESSAGE h0 h1 (some (Some (held.Message message))) h1 v (added message EMPTY v) r (refl, tt) k
-          (adds message EMPTY v refl idle.stage idle.message idle.waker) refl k.agree.took (λ e. cc)
+          (adds message EMPTY v refl idle.stage idle.message idle.waker) refl (inr idle.message) k.agree.took (λ e. cc)
           (rw (not_received EMPTY v r k.agree idle.stage) refl) k.waker,
       (λ m e. let same = same_message _ _ _ message m refl e in (
         finds EMPTY h0 h1 v r k (λ e. cc),
@@ -123,7 +123,7 @@ module _ {T : Type 0} where
       takes 1 (Some (held.Waker there.0)),
       ap some there.2,
       sender_kept (counts_as Add RECEIVING) RECEIVING AWAKING h0 h1 h0 none v (awoken Add true there.0 v) r (refl, (refl, tt)) k
-          (adds_receiving there.0 v idle.stage idle.message idle.waker) refl (λ w e. let same : there.0 ≡ w = cc in there.1 ∙ ap slot.Left same) (λ e. cc)
+          (adds_receiving there.0 v idle.stage idle.message idle.waker) refl (inr idle.message) (λ w e. let same : there.0 ≡ w = cc in there.1 ∙ ap slot.Left same) (λ e. cc)
           k.message (gone_home there.0 r.waker there.1),
       (λ m e. (
         finds RECEIVING h0 h1 v r k (λ e. cc),
@@ -139,8 +139,8 @@ module _ {T : Type 0} where
       keeps,
       tt,
       sender_kept (counts_as Add DISCONNECTED) DISCONNECTED UNREAD h0 h1 h0 h1 v (added message DISCONNECTED v) r (refl, tt) k
-          (adds message DISCONNECTED v refl idle.stage idle.message idle.waker) refl k.agree.took (λ e. cc)
-          (k.message ∙ ap (λ (x : Sent T). message_home x r.has_message) idle.message) k.waker,
+          (adds message DISCONNECTED v refl idle.stage idle.message idle.waker) refl (inr idle.message) k.agree.took (λ e. cc)
+          (k.message ∙ ap (λ (x : Sent T). message_home x (is_some r.message)) idle.message) k.waker,
       (λ m e. (
         finds DISCONNECTED h0 h1 v r k (λ e. cc),
         (λ e. absurd (omega arith)),
@@ -186,8 +186,8 @@ module _ {T : Type 0} where
       keeps,
       tt,
       sender_kept (counts_as ExclusiveOr EMPTY) EMPTY DISCONNECTED h0 h1 h0 h1 v (parted EMPTY v) r (refl, tt) k
-          (parts EMPTY v refl idle.stage idle.message idle.waker) refl k.agree.took (λ e. cc)
-          (k.message ∙ ap (λ (x : Sent T). message_home x r.has_message) idle.message) k.waker,
+          (parts EMPTY v refl idle.stage idle.message idle.waker) refl (inr idle.message) k.agree.took (λ e. cc)
+          (k.message ∙ ap (λ (x : Sent T). message_home x (is_some r.message)) idle.message) k.waker,
       (finds EMPTY h0 h1 v r k (λ e. cc), (λ e. absurd (omega arith)), (λ e. refl)),
     )
 
@@ -197,7 +197,7 @@ module _ {T : Type 0} where
       takes 1 (Some (held.Waker there.0)),
       ap some there.2,
       sender_kept (counts_as ExclusiveOr RECEIVING) RECEIVING AWAKING h0 h1 h0 none v (awoken ExclusiveOr false there.0 v) r (refl, (refl, tt)) k
-          (parts_receiving there.0 v idle.stage idle.message idle.waker) refl (λ w e. let same : there.0 ≡ w = cc in there.1 ∙ ap slot.Left same) (λ e. cc)
+          (parts_receiving there.0 v idle.stage idle.message idle.waker) refl (inr idle.message) (λ w e. let same : there.0 ≡ w = cc in there.1 ∙ ap slot.Left same) (λ e. cc)
           k.message (gone_home there.0 r.waker there.1),
       (finds RECEIVING h0 h1 v r k (λ e. cc), (λ e. (there.0, refl)), (λ not. absurd (not refl))),
     )
@@ -208,8 +208,8 @@ module _ {T : Type 0} where
       keeps,
       tt,
       sender_kept (counts_as ExclusiveOr DISCONNECTED) DISCONNECTED UNREAD h0 h1 h0 h1 v (parted DISCONNECTED v) r (refl, tt) k
-          (parts DISCONNECTED v refl idle.stage idle.message idle.waker) refl k.agree.took (λ e. cc)
-          (k.message ∙ ap (λ (x : Sent T). message_home x r.has_message) idle.message) k.waker,
+          (parts DISCONNECTED v refl idle.stage idle.message idle.waker) refl (inr idle.message) k.agree.took (λ e. cc)
+          (k.message ∙ ap (λ (x : Sent T). message_home x (is_some r.message)) idle.message) k.waker,
       (finds DISCONNECTED h0 h1 v r k (λ e. cc), (λ e. absurd (omega arith)), (λ e. refl)),
     )
 
@@ -235,12 +235,12 @@ module _ {T : Type 0} where
   awaking_in : (sending : Bool) (w : Waker) (m : Seated T) → IsAwaking sending w m → Awaking sending w (sender_of m.0)
   awaking_in sending w m h = record { stage = h.stage; message = h.message; waker = h.waker }
 
-  pub awaking_words : (sending : Bool) (word : ℕ) (v : SenderView T) (r : ReceiverView) → Agree word v r → v.stage ≡ sender.Awaking sending
+  pub awaking_words : (sending : Bool) (word : ℕ) (v : SenderView T) (r : ReceiverView T) → Agree word v r → v.stage ≡ sender.Awaking sending
       → (word ≡ AWAKING) ⊎ (word ≡ DISCONNECTED)
   awaking_words sending word v r h awaking = grind arith
 
-  not_yet_received : (sending : Bool) (word : ℕ) (v : SenderView T) (r : ReceiverView) → Agree word v r → v.stage ≡ sender.Awaking sending
-      → r.has_message ≡ false
+  not_yet_received : (sending : Bool) (word : ℕ) (v : SenderView T) (r : ReceiverView T) → Agree word v r → v.stage ≡ sender.Awaking sending
+      → is_some r.message ≡ false
   not_yet_received sending word v r h awaking = grind arith
 
   module _ (message : T) (c : List (ℕ × Slot T)) (w : Waker) (v : SenderView T) (awaking : Awaking true w v) where
@@ -253,7 +253,7 @@ module _ {T : Type 0} where
       gives,
       tt,
       sender_kept (counts_as FinalSwap AWAKING) AWAKING MESSAGE h0 h1 (some (Some (held.Message message))) h1 v (sent_finally message AWAKING v) r (refl, tt) k
-          (sends_finally message AWAKING v w awaking.stage awaking.message awaking.waker) refl k.agree.took (λ e. cc)
+          (sends_finally message AWAKING v w awaking.stage awaking.message awaking.waker) refl (inr awaking.message) k.agree.took (λ e. cc)
           (rw (not_yet_received true AWAKING v r k.agree awaking.stage) refl) k.waker,
       (λ m e. let same = same_message _ _ _ message m refl e in (
         finds AWAKING h0 h1 v r k (λ e. cc),
@@ -268,8 +268,8 @@ module _ {T : Type 0} where
       keeps,
       tt,
       sender_kept (counts_as FinalSwap DISCONNECTED) DISCONNECTED MESSAGE h0 h1 h0 h1 v (sent_finally message DISCONNECTED v) r (refl, tt) k
-          (sends_finally message DISCONNECTED v w awaking.stage awaking.message awaking.waker) refl k.agree.took (λ e. cc)
-          (k.message ∙ ap (λ (x : Sent T). message_home x r.has_message) awaking.message) k.waker,
+          (sends_finally message DISCONNECTED v w awaking.stage awaking.message awaking.waker) refl (inr awaking.message) k.agree.took (λ e. cc)
+          (k.message ∙ ap (λ (x : Sent T). message_home x (is_some r.message)) awaking.message) k.waker,
       (λ m e. (finds DISCONNECTED h0 h1 v r k (λ e. cc), refl, (λ e. refl))),
     )
 
@@ -312,8 +312,8 @@ module _ {T : Type 0} where
         keeps,
         tt,
         sender_kept (counts_as FinalSwap word) word DISCONNECTED h0 h1 h0 h1 v (parted_finally word v) r (refl, tt) k
-            (parts_finally word v w awaking.stage awaking.message awaking.waker) refl k.agree.took (λ e. cc)
-            (k.message ∙ ap (λ (x : Sent T). message_home x r.has_message) awaking.message) k.waker,
+            (parts_finally word v w awaking.stage awaking.message awaking.waker) refl (inr awaking.message) k.agree.took (λ e. cc)
+            (k.message ∙ ap (λ (x : Sent T). message_home x (is_some r.message)) awaking.message) k.waker,
         (finds word h0 h1 v r k not_ended, refl),
       )
         where

@@ -1,18 +1,19 @@
 -- What the sender knows after it added 1.
-use Rattle.std.proofs.Common.{◌≡◌, ◌≢◌, ℕ, Bool, true, List, [], ◌∷◌, ◌++◌, Some, None, refl, ap, ◌∙◌, subst, arith}
+use Rattle.std.proofs.Common.{◌≡◌, ◌≢◌, ℕ, Bool, true, List, [], ◌∷◌, ◌++◌, Some, None, refl, sym, ap, ◌∙◌, subst, arith}
 use Rattle.std.specs.Prelude.{if◌then◌else◌}
 use Rattle.atomic_table.specs.Table.{rest}
 use Rattle.band_base.specs.declared.waker.Waker.{Waker}
 use Rattle.band_oneshot.specs.declared.word.TheConstants.{EMPTY, RECEIVING, AWAKING, DISCONNECTED}
 use Rattle.band_oneshot.specs.declared.step.OneshotStep.TheVariants.{Add}
 use Rattle.band_oneshot.specs.declared.view.Held.TheVariants as held
+use Rattle.band_oneshot.specs.declared.view.Sent.TheVariants as sent
 use Rattle.band_oneshot.specs.declared.view.SenderView.{SenderView}
 use Rattle.band_oneshot.specs.declared.view.View.{View}
 use Rattle.band_oneshot.specs.declared.view.View.TheVariants as view
 use Rattle.band_oneshot.specs.Ends.{added, awoken, sent_finally}
 use Rattle.band_oneshot.specs.Kept.Plays.{sender_of, Adds}
 use Rattle.band_oneshot.specs.Kept.Rule.{Slot, Seated}
-use Rattle.band_oneshot.specs.Kept.Seats.{IsIdleWord}
+use Rattle.band_oneshot.specs.Kept.Seats.{IsIdleWord, IsSending}
 use Rattle.band_oneshot.proofs.Slots.{begins_with, same_waker}
 
 pub late : (found : ℕ) → IsIdleWord found → found ≢ EMPTY → found ≢ RECEIVING → found ≡ DISCONNECTED
@@ -55,6 +56,16 @@ module _ {T : Type 0} where
   awoken_after f found taken c new after is slot left =
       let same = same_waker new.1 c (rest new.1) found taken (ap (λ x. x.1) is) slot in
       left ∙ ap (λ (x : Seated T). (x.0, rest x.1 ++ (1, None) ∷ [])) is ∙ ap (λ (w : Waker). (f w, c ++ (1, None) ∷ [])) same
+
+  -- a sender that took this waker has its message in the slot
+  pub is_sending : (w : Waker) (message : T) (before : SenderView T) (me : Seated T) → before.message ≡ sent.Nothing
+      → me ≡ (view.Sends (awoken Add true w before), (0, Some (held.Message message)) ∷ (1, None) ∷ []) → IsSending me
+  is_sending w message before me none_yet is = subst IsSending (sym is) (record {
+    waker = w;
+    awaking = record { sends = refl; stage = refl; message = none_yet; waker = refl };
+    message = message;
+    slot = refl;
+  })
 
   -- what a sender that took this waker knows after its final swap
   pub sent_last : (message : T) (w : Waker) (before : SenderView T) (me : Seated T) (woken : Bool) (spent : View T)

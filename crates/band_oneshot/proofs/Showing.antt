@@ -10,7 +10,7 @@ use Rattle.band_oneshot.specs.declared.view.Sent.TheVariants as sent
 use Rattle.band_oneshot.specs.declared.view.WakerSlot.TheVariants as slot
 use Rattle.band_oneshot.specs.declared.view.SenderView.{SenderView}
 use Rattle.band_oneshot.specs.declared.view.ReceiverView.{ReceiverView}
-use Rattle.band_oneshot.specs.Ends.{sender_looked, added, parted, awoken, sent_finally, parted_finally, receiver_looked, poll_looked, cancel_looked, swapped, stored, left, fetched, awaking_ended, empty_ended}
+use Rattle.band_oneshot.specs.Ends.{sender_looked, added, parted, awoken, sent_finally, parted_finally, receiver_looked, poll_looked, cancel_looked, swapped, stored, received, left, fetched, awaking_ended, empty_ended}
 use Rattle.band_oneshot.specs.Runs.{counts_as, SenderRuns, ReceiverRuns}
 
 module _ {T : Type 0} where
@@ -43,55 +43,64 @@ module _ {T : Type 0} where
   parts_finally found v w awaking nothing has r h took = grind arith
 
 module _ (T : Type 0) where
-  pub receiver_looks : (found : ℕ) (v : ReceiverView) → (v.stage ≡ receiver.Plain) ⊎ (v.stage ≡ receiver.Waiting)
+  pub receiver_looks : (found : ℕ) (v : ReceiverView T) → (v.stage ≡ receiver.Plain) ⊎ (v.stage ≡ receiver.Waiting)
       → ReceiverRuns T (counts_as (ReceiverLoad false) found) found v (receiver_looked found v)
   receiver_looks found v on s h = grind arith
 
-  pub poll_looks : (found : ℕ) (v : ReceiverView) → (v.stage ≡ receiver.Plain) ⊎ (v.stage ≡ receiver.Waiting) → (found ≡ EMPTY → v.waker ≡ slot.Unused)
+  pub poll_looks : (found : ℕ) (v : ReceiverView T) → (v.stage ≡ receiver.Plain) ⊎ (v.stage ≡ receiver.Waiting) → (found ≡ EMPTY → v.waker ≡ slot.Unused)
       → ReceiverRuns T (counts_as (ReceiverLoad false) found) found v (poll_looked found v)
   poll_looks found v on s h = grind arith
 
-  cancel_looks_plain : (found : ℕ) (v : ReceiverView) → v.stage ≡ receiver.Plain
+  cancel_looks_plain : (found : ℕ) (v : ReceiverView T) → (found == MESSAGE) ≡ false → v.stage ≡ receiver.Plain
       → ReceiverRuns T (counts_as (ReceiverLoad true) found) found v (cancel_looked found v)
-  cancel_looks_plain found v on s h = grind arith
+  cancel_looks_plain found v not on s h = grind arith
 
-  cancel_looks_waiting : (found : ℕ) (v : ReceiverView) → v.stage ≡ receiver.Waiting
+  cancel_looks_waiting : (found : ℕ) (v : ReceiverView T) → (found == MESSAGE) ≡ false → v.stage ≡ receiver.Waiting
       → ReceiverRuns T (counts_as (ReceiverLoad true) found) found v (cancel_looked found v)
-  cancel_looks_waiting found v on s h = grind arith
+  cancel_looks_waiting found v not on s h = grind arith
 
-  cancel_looks_again : (found : ℕ) (v : ReceiverView) → v.stage ≡ receiver.Cancelling
+  cancel_looks_again : (found : ℕ) (v : ReceiverView T) → (found == MESSAGE) ≡ false → v.stage ≡ receiver.Cancelling
       → ReceiverRuns T (counts_as (ReceiverLoad true) found) found v (cancel_looked found v)
-  cancel_looks_again found v on s h = grind arith
+  cancel_looks_again found v not on s h = grind arith
 
-  pub cancel_looks : (found : ℕ) (v : ReceiverView)
+  pub cancel_looks : (found : ℕ) (v : ReceiverView T) → (found == MESSAGE) ≡ false
       → (v.stage ≡ receiver.Plain) ⊎ ((v.stage ≡ receiver.Waiting) ⊎ (v.stage ≡ receiver.Cancelling))
       → ReceiverRuns T (counts_as (ReceiverLoad true) found) found v (cancel_looked found v)
-  cancel_looks found v on = elim on [
-    | inl plain ↦ cancel_looks_plain found v plain
-    | inr (inl waiting) ↦ cancel_looks_waiting found v waiting
-    | inr (inr cancelling) ↦ cancel_looks_again found v cancelling
+  cancel_looks found v not on = elim on [
+    | inl plain ↦ cancel_looks_plain found v not plain
+    | inr (inl waiting) ↦ cancel_looks_waiting found v not waiting
+    | inr (inr cancelling) ↦ cancel_looks_again found v not cancelling
   ]
 
-  pub swaps : (found : ℕ) (v : ReceiverView) → v.stage ≡ receiver.Plain
+  pub cancel_takes : (message : T) (found : ℕ) (v : ReceiverView T) → found ≡ MESSAGE
+      → (v.stage ≡ receiver.Plain) ⊎ ((v.stage ≡ receiver.Waiting) ⊎ (v.stage ≡ receiver.Cancelling))
+      → ReceiverRuns T (counts_as (ReceiverLoad true) found) found v (received message (cancel_looked found v))
+  cancel_takes message found v is on s h = grind arith
+
+  pub swaps : (found : ℕ) (v : ReceiverView T) → (found == MESSAGE) ≡ false → v.stage ≡ receiver.Plain
       → ReceiverRuns T (counts_as Swap found) found v (swapped found v)
-  swaps found v on s h = grind arith
+  swaps found v not on s h = grind arith
 
-  pub stores : (v : ReceiverView) → (v.stage ≡ receiver.Plain) ⊎ (v.stage ≡ receiver.Waiting)
-      → ReceiverRuns T (counts_as Store MESSAGE) MESSAGE v (stored v)
-  stores v on s h = grind arith
+  pub swap_takes : (message : T) (found : ℕ) (v : ReceiverView T) → found ≡ MESSAGE → v.stage ≡ receiver.Plain
+      → ReceiverRuns T (counts_as Swap found) found v (received message (swapped found v))
+  swap_takes message found v is on s h = grind arith
 
-  pub leaves : (w : Waker) (found : ℕ) (v : ReceiverView) → v.stage ≡ receiver.Plain → v.waker ≡ slot.Taken
+  pub store_takes : (message : T) (v : ReceiverView T) → (v.stage ≡ receiver.Plain) ⊎ (v.stage ≡ receiver.Waiting)
+      → ReceiverRuns T (counts_as Store MESSAGE) MESSAGE v (received message (stored v))
+  store_takes message v on s h = grind arith
+
+  pub leaves : (w : Waker) (found : ℕ) (v : ReceiverView T) → v.stage ≡ receiver.Plain → v.waker ≡ slot.Taken
       → ReceiverRuns T (PutWaker w ∷ counts_as EmptyToReceiving found) found v (left w found v)
   leaves w found v on has s h = grind arith
 
-  pub fetches : (found : ℕ) (v : ReceiverView) → (v.stage ≡ receiver.Waiting) ⊎ (v.stage ≡ receiver.Cancelling)
+  pub fetches : (found : ℕ) (v : ReceiverView T) → (v.stage ≡ receiver.Waiting) ⊎ (v.stage ≡ receiver.Cancelling)
       → ReceiverRuns T (counts_as ReceivingToEmpty found) found v (fetched found v)
   fetches found v on s h = grind arith
 
-  pub ends_awaking : (found : ℕ) (v : ReceiverView) → v.stage ≡ receiver.Cancelling
+  pub ends_awaking : (found : ℕ) (v : ReceiverView T) → v.stage ≡ receiver.Cancelling
       → ReceiverRuns T (counts_as AwakingToDisconnected found) found v (awaking_ended found v)
   ends_awaking found v on s h = grind arith
 
-  pub ends_empty : (found : ℕ) (v : ReceiverView) → v.stage ≡ receiver.Cancelling
+  pub ends_empty : (found : ℕ) (v : ReceiverView T) → v.stage ≡ receiver.Cancelling
       → ReceiverRuns T (counts_as EmptyToDisconnected found) found v (empty_ended found v)
   ends_empty found v on s h = grind arith

@@ -32,7 +32,8 @@ is_place this that = false
 abbrev pub moves : Place → Place → List OneshotStep → OneshotState → ℕ
 moves from to [] c = 0
 moves from to (s ∷ rest) c =
-    (if is_place from c.message && is_place to (after s c).message then 1 else 0) + moves from to rest (after s c)
+    (if is_place from c.message && is_place to (after s c).message then 1 else 0)
+    + moves from to rest (after s c)
 
 -- in this run the sender makes its final swap, which finds this word
 abbrev pub SwapsFinally : ℕ → List OneshotStep → OneshotState → Type 0

@@ -31,11 +31,13 @@ pub record Runs (steps : List OneshotStep) (old new : OneshotState) : Type 0 whe
   pub state : new ≡ after_all steps old
 
 -- whatever a receiver knows that can be there with the word that was found
-abbrev pub SenderRuns : {T : Type 0} → List OneshotStep → ℕ → SenderView T → SenderView T → Type 0
-SenderRuns steps found old new =
-    (r : ReceiverView) → Agree found old r → Took new r → Runs steps (shown found old r) (shown new.word new r)
+module _ {T : Type 0} where
+  abbrev pub SenderRuns : List OneshotStep → ℕ → SenderView T → SenderView T → Type 0
+  SenderRuns steps found old new =
+      (r : ReceiverView T) → Agree found old r → Took new r
+      → Runs steps (shown found old r) (shown new.word new r)
 
 -- whatever a sender knows that can be there with the word that was found
-abbrev pub ReceiverRuns : (T : Type 0) → List OneshotStep → ℕ → ReceiverView → ReceiverView → Type 0
+abbrev pub ReceiverRuns : (T : Type 0) → List OneshotStep → ℕ → ReceiverView T → ReceiverView T → Type 0
 ReceiverRuns T steps found old new =
     (s : SenderView T) → Agree found s old → Runs steps (shown found s old) (shown new.word s new)

@@ -20,11 +20,13 @@ pub record IsSound (c : OneshotState) : Type 0 where
   pub word : IsWord c.word
   -- the word tells where the ends are
   pub receiving : c.word ≡ RECEIVING
-      → IsTrue (is_idle c.sender) × IsTrue (is_waiting c.receiver || is_cancelling c.receiver) × IsTrue (is_left c.waker)
+      → IsTrue (is_idle c.sender) × IsTrue (is_waiting c.receiver || is_cancelling c.receiver)
+      × IsTrue (is_left c.waker)
   pub awaking : c.word ≡ AWAKING
       → IsTrue (is_awaking c.sender) × IsTrue (is_waiting c.receiver || is_cancelling c.receiver)
   pub empty : c.word ≡ EMPTY
-      → (IsTrue (is_idle c.sender) × IsTrue (is_plain c.receiver || is_registering c.receiver || is_cancelling c.receiver))
+      → (IsTrue (is_idle c.sender)
+      × IsTrue (is_plain c.receiver || is_registering c.receiver || is_cancelling c.receiver))
       ⊎ BothEnded c
   pub message : c.word ≡ MESSAGE
       → (c.sender ≡ sender.Ended) × (c.receiver ≢ receiver.Ended → c.message ≡ place.Channel)
@@ -39,4 +41,5 @@ pub record IsSound (c : OneshotState) : Type 0 where
   pub registering : IsTrue (is_registering c.receiver) → IsTrue (is_with_receiver c.waker)
   pub waiting : IsTrue (is_waiting c.receiver) → IsTrue (is_idle c.sender) → c.word ≡ RECEIVING
   -- a message that is there
-  pub there : c.message ≡ place.Channel → (c.sender ≡ sender.Ended) × ((c.word ≡ MESSAGE) ⊎ (c.word ≡ DISCONNECTED))
+  pub there : c.message ≡ place.Channel
+      → (c.sender ≡ sender.Ended) × ((c.word ≡ MESSAGE) ⊎ (c.word ≡ DISCONNECTED))

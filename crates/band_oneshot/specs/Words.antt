@@ -22,7 +22,8 @@ abbrev pub sender_makes : ℕ → ℕ → Bool
 sender_makes left found =
     (found == left)
     || ((left == RECEIVING) && (found == AWAKING))
-    || (((left == EMPTY) || (left == RECEIVING) || (left == AWAKING)) && ((found == MESSAGE) || (found == DISCONNECTED)))
+    || (((left == EMPTY) || (left == RECEIVING) || (left == AWAKING))
+    && ((found == MESSAGE) || (found == DISCONNECTED)))
 
 -- can the receiver have made this of a word that the sender left, before it ended?
 abbrev pub receiver_makes : ℕ → ℕ → Bool

@@ -53,13 +53,15 @@ pub(crate) type EndSeat<T> = Seat<Option<Held<T>>, View<T>>;
 pub(crate) struct End<T> {
     pub(crate) channel: Arc<Channel<T>, Global>,
     pub(crate) seat: EndSeat<T>,
-    ghost fits: { (seat.table_id ≡ (arc_value channel).shared.table_id) × ((arc_value channel).shared.table_id.words ≡ 1) },
+    ghost fits: { (seat.table_id ≡ (arc_value channel).shared.table_id)
+        × ((arc_value channel).shared.table_id.words ≡ 1) },
 }
 
 impl<T: Drop> End<T> {
     /// The sender looks at the word.
     pub(crate) fn sender_load(&mut self) -> u64
         requires { IsIdle self.old.seat.me }
+        ensures follows { receiver_makes (sender_of self.old.seat.me.0).word result ≡ true }
         ensures play { SenderLooks self.old.seat.me result self.new.seat.me }
         ensures core { SenderSteps (counts_as steps.SenderLoad result) result
             self.old.seat.me self.new.seat.me }
@@ -96,6 +98,7 @@ impl<T: Drop> End<T> {
     pub(crate) fn exclusive_or(&mut self) -> u64
         requires { IsIdle self.old.seat.me }
         ensures words { IsIdleWord result }
+        ensures follows { receiver_makes (sender_of self.old.seat.me.0).word result ≡ true }
         ensures play { Parts self.old.seat.me result self.new.seat.me }
         ensures core { SenderSteps (counts_as steps.ExclusiveOr result) result
             self.old.seat.me self.new.seat.me }
@@ -237,7 +240,8 @@ impl<T: Drop> End<T> {
     /// The receiver puts a waker into its slot, which it has out.
     pub(crate) fn put_waker(&mut self, waker: Waker)
         requires { (content : Slot T) × (self.old.seat.me.1 ≡ (1, content) ∷ rest self.old.seat.me.1) }
-        ensures { self.new.seat.me ≡ (self.old.seat.me.0, (1, Some (held.Waker waker)) ∷ rest self.old.seat.me.1) }
+        ensures { self.new.seat.me
+            ≡ (self.old.seat.me.0, (1, Some (held.Waker waker)) ∷ rest self.old.seat.me.1) }
     {
         let _ = self
             .channel

@@ -19,15 +19,12 @@ pub fn runs_are_sound()
     ensures run { (steps : List TheStep) (c : TheState) → IsSound c → IsSound (after_all steps c) }
 {}
 
-/// The message goes only from the sender into the channel, back or away, and from the channel to the receiver.
+/// The message goes only from the sender into the channel, back or away, and from the channel to the receiver, and in a run from
+/// one place to another at most once.
 pub fn messages_move()
-    ensures { (s : TheStep) (c : TheState) → IsSound c → MovesMessage c.message (after s c).message }
-{}
-
-/// In a run the message goes from one place to another at most once.
-pub fn a_message_moves_once()
-    ensures { (from to : ThePlace) (steps : List TheStep) (c : TheState) → IsSound c → is_place from to ≡ false
-        → moves from to steps c ≤ 1 }
+    ensures step { (s : TheStep) (c : TheState) → IsSound c → MovesMessage c.message (after s c).message }
+    ensures run { (from to : ThePlace) (steps : List TheStep) (c : TheState) → IsSound c
+        → is_place from to ≡ false → moves from to steps c ≤ 1 }
 {}
 
 /// Once the sender added 1, the message is handed back, with the sender until its final swap, in the channel, received, or
@@ -38,15 +35,11 @@ pub fn an_added_message_is_known()
 {}
 
 /// The waker goes only from the receiver into the channel or away, and from the channel to either end. Every other change of
-/// it is a put.
+/// it is a put: a waker that is anywhere after a run was there before it, or was put in it.
 pub fn wakers_move()
-    ensures { (s : TheStep) (c : TheState) → MovesWakerBy s c.waker (after s c).waker }
-{}
-
-/// A waker that is anywhere after a run was there before it, or was put in it.
-pub fn wakers_were_put()
-    ensures { (steps : List TheStep) (c : TheState) (w : TheWaker) → waker_in (after_all steps c).waker ≡ Some w
-        → (waker_in c.waker ≡ Some w) ⊎ Puts w steps }
+    ensures step { (s : TheStep) (c : TheState) → MovesWakerBy s c.waker (after s c).waker }
+    ensures run { (steps : List TheStep) (c : TheState) (w : TheWaker)
+        → waker_in (after_all steps c).waker ≡ Some w → (waker_in c.waker ≡ Some w) ⊎ Puts w steps }
 {}
 
 /// No step of the sender changes the word `MESSAGE`, or the word `DISCONNECTED` before the receiver has ended. No step of the
@@ -55,14 +48,12 @@ pub fn found_words_stay()
     ensures { (s : TheStep) (c : TheState) → IsSound c → KeepsFoundWords (is_senders s) c (after s c) }
 {}
 
-/// What the receiver may find after steps of the sender alone, before it has ended itself.
-pub fn the_sender_makes()
-    ensures { (steps : List TheStep) (c : TheState) → AllByRecursion (λ s. is_senders s ≡ true) steps → IsSound c
-        → c.receiver ≢ receiver.Ended → sender_makes c.word (after_all steps c).word ≡ true }
-{}
-
-/// What the sender may find after steps of the receiver alone, before it has ended itself.
-pub fn the_receiver_makes()
-    ensures { (steps : List TheStep) (c : TheState) → AllByRecursion (λ s. is_receivers s ≡ true) steps → IsSound c
-        → c.sender ≢ sender.Ended → receiver_makes c.word (after_all steps c).word ≡ true }
+/// What an end may find after steps of the other alone, before it has ended itself.
+pub fn an_end_makes()
+    ensures sender { (steps : List TheStep) (c : TheState)
+        → AllByRecursion (λ s. is_senders s ≡ true) steps → IsSound c → c.receiver ≢ receiver.Ended
+        → sender_makes c.word (after_all steps c).word ≡ true }
+    ensures receiver { (steps : List TheStep) (c : TheState)
+        → AllByRecursion (λ s. is_receivers s ≡ true) steps → IsSound c → c.sender ≢ sender.Ended
+        → receiver_makes c.word (after_all steps c).word ≡ true }
 {}

@@ -18,8 +18,8 @@ mod view;
 mod word;
 
 pub use laws::{
-    a_message_moves_once, an_added_message_is_known, found_words_stay, messages_move,
-    runs_are_sound, the_receiver_makes, the_sender_makes, wakers_move, wakers_were_put,
+    an_added_message_is_known, an_end_makes, found_words_stay, messages_move, runs_are_sound,
+    wakers_move,
 };
 pub use opening::channel;
 pub use receiver::{Receiver, TryRecvError};

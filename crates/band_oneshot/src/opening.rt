@@ -4,6 +4,7 @@ ghost use Rattle.band_oneshot.specs.Ends.{new_sender, new_receiver};
 
 use crate::end::{EMPTY, End};
 use crate::receiver::Receiver;
+use crate::recv::Recv;
 use crate::rule::{Ends, Law, Prepare};
 use crate::sender::Sender;
 use crate::spent::Spent;
@@ -17,6 +18,8 @@ use std::sync::Arc;
 const _: () = prove!(size_of::<Sender<u64>>() == 8);
 
 const _: () = prove!(size_of::<Receiver<u64>>() == 8);
+
+const _: () = prove!(size_of::<Recv<u64>>() == 8);
 
 const _: () = prove!(size_of::<Spent<u64>>() == 0);
 

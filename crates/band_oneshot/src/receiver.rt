@@ -1,5 +1,5 @@
 //! The receiver.
-ghost use Rattle.std.specs.Prelude.{◌≡◌, ◌↔◌, IsTrue, IsOk, IsSome, IsErrOf};
+ghost use Rattle.std.specs.Prelude.{◌≡◌, ◌↔◌, IsTrue, IsOk, IsSome, IsNone, IsErrOf};
 ghost use Rattle.band_oneshot.specs.Calls.{TriesToReceive, DisconnectsReceiver};
 ghost use Rattle.band_oneshot.specs.Ends.{receiver_looked};
 
@@ -19,7 +19,7 @@ impl<T> Model for Receiver<T> {
     ghost use Rattle.band_oneshot.specs.Kept.Plays.{receiver_of};
     ghost use Rattle.band_oneshot.specs.Kept.Seats.{IsPlain};
 
-    ghost Value = { ReceiverView };
+    ghost Value = { ReceiverView T };
 
     ghost view = { λ r. receiver_of r.end.seat.me.0 };
 
@@ -28,15 +28,12 @@ impl<T> Model for Receiver<T> {
 
 impl<T: Drop> Drop for Receiver<T> {
     fn drop(self) {
-        let Self { mut end } = self;
-        if end.swap() == MESSAGE {
-            drop(end.take_message());
-        }
+        let (_message, _spent) = self.disconnect();
     }
 }
 
 /// Why there was no message. Ports `TryRecvError`.
-#[derive(Debug, Drop, Error)]
+#[derive(Clone, Debug, PartialEq, Eq, Drop, Error)]
 pub enum TryRecvError {
     /// None is there, and the sender may still send one.
     #[error("receiving on an empty channel")]
@@ -51,6 +48,8 @@ impl<T: Drop> Receiver<T> {
     pub fn is_disconnected(&mut self) -> bool
         ensures looked { self.new ≡ receiver_looked self.new.word self.old }
         ensures found { IsTrue result ↔ (self.new.word ≡ DISCONNECTED) }
+        ensures known_message { self.old.word ≡ MESSAGE → self.new.word ≡ MESSAGE }
+        ensures known_end { self.old.word ≡ DISCONNECTED → self.new.word ≡ DISCONNECTED }
     {
         self.end.receiver_load() == DISCONNECTED
     }
@@ -59,6 +58,8 @@ impl<T: Drop> Receiver<T> {
     pub fn has_message(&mut self) -> bool
         ensures looked { self.new ≡ receiver_looked self.new.word self.old }
         ensures found { IsTrue result ↔ (self.new.word ≡ MESSAGE) }
+        ensures known_message { self.old.word ≡ MESSAGE → self.new.word ≡ MESSAGE }
+        ensures known_end { self.old.word ≡ DISCONNECTED → self.new.word ≡ DISCONNECTED }
     {
         self.end.receiver_load() == MESSAGE
     }
@@ -92,6 +93,7 @@ impl<T: Drop> Receiver<T> {
     pub fn disconnect(self) -> (Option<T>, Spent<T>)
         ensures disconnects { DisconnectsReceiver self result.0 result.1 }
         ensures known_message { self.word ≡ MESSAGE → IsSome result.0 }
+        ensures known_end { self.word ≡ DISCONNECTED → IsNone result.0 }
     {
         let Receiver { mut end } = self;
         if end.swap() == MESSAGE {

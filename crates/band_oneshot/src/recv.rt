@@ -1,5 +1,5 @@
 //! A wait for the message.
-ghost use Rattle.std.specs.Prelude.{◌≡◌, ◌≤◌, ◌∷◌, ◌⊎◌};
+ghost use Rattle.std.specs.Prelude.{◌≡◌, ◌≤◌, ◌∷◌, ◌⊎◌, IsSome, IsNone};
 ghost use Rattle.atomic_table.specs.Table.{rest};
 ghost use Rattle.band_oneshot.specs.declared.state.ReceiverStage.TheVariants as receiver;
 ghost use Rattle.band_oneshot.specs.declared.view.WakerSlot.TheVariants as slot;
@@ -23,7 +23,7 @@ impl<T> Model for Recv<T> {
     ghost use Rattle.band_oneshot.specs.Kept.Plays.{receiver_of};
     ghost use Rattle.band_oneshot.specs.Kept.Seats.{IsResting};
 
-    ghost Value = { ReceiverView };
+    ghost Value = { ReceiverView T };
 
     ghost view = { λ r. receiver_of r.end.seat.me.0 };
 
@@ -32,8 +32,7 @@ impl<T> Model for Recv<T> {
 
 impl<T: Drop> Drop for Recv<T> {
     fn drop(self) {
-        let Self { end } = self;
-        let _ = end.cancel_within(3);
+        let (_message, _spent) = self.cancel();
     }
 }
 
@@ -50,7 +49,7 @@ pub enum RecvPoll<T> {
 }
 
 /// Why there is no message. Ports `RecvError`.
-#[derive(Debug, Drop, Error)]
+#[derive(Clone, Debug, PartialEq, Eq, Drop, Error)]
 pub enum RecvError {
     /// None will come: the sender ended without one, or it was received.
     #[error("receiving on a disconnected channel")]
@@ -83,7 +82,9 @@ impl<T: Drop> Recv<T> {
     /// Ends the wait, as a drop does in Rust, and hands over a message that was not received. It makes at most three turns, each a
     /// load and at most one exchange.
     pub fn cancel(self) -> (Option<T>, Spent<T>)
-        ensures { CancelsIn 3 self result.0 result.1 }
+        ensures cancels { CancelsIn 3 self result.0 result.1 }
+        ensures known_message { self.word ≡ MESSAGE → IsSome result.0 }
+        ensures known_end { self.word ≡ DISCONNECTED → IsNone result.0 }
     {
         let Recv { end } = self;
         end.cancel_within(3)
@@ -100,7 +101,7 @@ enum Turn<T> {
 
 impl<T: Drop> End<T> {
     ghost use Rattle.band_oneshot.specs.Calls.{CancelsIn};
-    ghost use Rattle.band_oneshot.specs.Kept.Waits.{Settles, Registers, Turns, turns_left};
+    ghost use Rattle.band_oneshot.specs.Kept.Waits.{Settles, Registers, Turns, AnswersAfter, TurnsAfter, turns_left};
 
     /// Puts the waker into its slot, which is out, and tries to leave it there.
     fn register(&mut self, waker: Waker) -> RecvPoll<T>
@@ -109,7 +110,8 @@ impl<T: Drop> End<T> {
         requires has { (receiver_of self.old.seat.me.0).waker ≡ slot.Taken }
         requires empty { (receiver_of self.old.seat.me.0).word ≡ EMPTY }
         requires slot { (content : Slot T) × (self.old.seat.me.1 ≡ (1, content) ∷ rest self.old.seat.me.1) }
-        ensures registers { Registers waker (receiver_of self.old.seat.me.0) result (receiver_of self.new.seat.me.0) }
+        ensures registers { Registers waker (receiver_of self.old.seat.me.0) result
+            (receiver_of self.new.seat.me.0) }
         ensures resting { IsResting self.new.seat.me }
     {
         self.put_waker(waker);
@@ -127,7 +129,8 @@ impl<T: Drop> End<T> {
         requires stage { MayWait (receiver_of self.old.seat.me.0) }
         requires found { (receiver_of self.old.seat.me.0).word ≡ found }
         requires words { (found ≡ AWAKING) ⊎ ((found ≡ MESSAGE) ⊎ (found ≡ DISCONNECTED)) }
-        ensures settles { Settles waker found (receiver_of self.old.seat.me.0) result (receiver_of self.new.seat.me.0) }
+        ensures settles { Settles waker found (receiver_of self.old.seat.me.0) result
+            (receiver_of self.new.seat.me.0) }
         ensures resting { IsResting self.new.seat.me }
     {
         if found == MESSAGE {
@@ -145,6 +148,7 @@ impl<T: Drop> End<T> {
         requires receives { Receives self.old.seat.me }
         requires stage { MayCancel (receiver_of self.old.seat.me.0) }
         ensures turns { Turns (receiver_of self.old.seat.me.0) result (receiver_of self.new.seat.me.0) }
+        ensures known { TurnsAfter (receiver_of self.old.seat.me.0).word result }
         ensures receives { Receives self.new.seat.me }
     {
         let found = self.cancel_load();
@@ -177,7 +181,8 @@ impl<T: Drop> End<T> {
         requires receives { Receives self.seat.me }
         requires stage { MayCancel (receiver_of self.seat.me.0) }
         requires enough { turns_left (receiver_of self.seat.me.0).word ≤ turns }
-        ensures { CancelsIn turns (receiver_of self.seat.me.0) result.0 result.1 }
+        ensures cancels { CancelsIn turns (receiver_of self.seat.me.0) result.0 result.1 }
+        ensures known { AnswersAfter (receiver_of self.seat.me.0).word result.0 }
     {
         let mut end = self;
         match end.cancel_turn() {

@@ -1,10 +1,10 @@
 //! The sender.
-ghost use Rattle.std.specs.Prelude.{◌≡◌, ◌↔◌, IsTrue, IsErr};
-ghost use Rattle.band_oneshot.specs.Kept.Begun.{BeginsToSend, BeginsToPart, FindsNobody};
+ghost use Rattle.std.specs.Prelude.{◌≡◌, ◌↔◌, IsTrue, IsErr, IsNone};
+ghost use Rattle.band_oneshot.specs.Kept.Begun.{BeginsToSend, BeginsToPart, FindsNobody, LeavesNobody};
 ghost use Rattle.band_oneshot.specs.Calls.{Sends, DisconnectsSender};
 ghost use Rattle.band_oneshot.specs.Ends.{sender_looked};
 
-use crate::awaking::{Awaking, Begun};
+use crate::awaking::{BegunToPart, BegunToSend, Parting, Sending};
 use crate::end::{DISCONNECTED, EMPTY, End, RECEIVING};
 use crate::spent::Spent;
 use band_base::Waker;
@@ -34,11 +34,7 @@ impl<T> Model for Sender<T> {
 
 impl<T: Drop> Drop for Sender<T> {
     fn drop(self) {
-        let Self { mut end } = self;
-        if end.exclusive_or() == RECEIVING {
-            let _waker = end.take_waker();
-            let _found = end.part_finally();
-        }
+        let (_waker, _spent) = self.disconnect();
     }
 }
 
@@ -83,6 +79,7 @@ impl<T: Drop> Sender<T> {
     pub fn is_disconnected(&mut self) -> bool
         ensures looked { self.new ≡ sender_looked self.new.word self.old }
         ensures found { IsTrue result ↔ (self.new.word ≡ DISCONNECTED) }
+        ensures known { self.old.word ≡ DISCONNECTED → self.new.word ≡ DISCONNECTED }
     {
         self.end.sender_load() == DISCONNECTED
     }
@@ -93,10 +90,10 @@ impl<T: Drop> Sender<T> {
         ensures known { self.word ≡ DISCONNECTED → IsErr result.0 }
     {
         match self.begin_send(message) {
-            Begun::Ended(spent) => (Ok(None), spent),
-            Begun::Refused(message, spent) => (Err(SendError { message }), spent),
-            Begun::Awaking(awaking, waker) => {
-                let (woken, spent) = awaking.finish_send();
+            BegunToSend::Ended(spent) => (Ok(None), spent),
+            BegunToSend::Refused(message, spent) => (Err(SendError { message }), spent),
+            BegunToSend::Awaking(sending, waker) => {
+                let (woken, spent) = sending.finish();
                 if woken {
                     (Ok(Some(waker)), spent)
                 } else {
@@ -108,13 +105,13 @@ impl<T: Drop> Sender<T> {
 
     /// Ends without a message, as a drop does in Rust. Where the receiver waited, the waker comes back, to be woken.
     pub fn disconnect(self) -> (Option<Waker>, Spent<T>)
-        ensures { DisconnectsSender self result.0 result.1 }
+        ensures disconnects { DisconnectsSender self result.0 result.1 }
+        ensures known { self.word ≡ DISCONNECTED → IsNone result.0 }
     {
         match self.begin_disconnect() {
-            Begun::Ended(spent) => (None, spent),
-            Begun::Refused(_message, spent) => (None, spent),
-            Begun::Awaking(awaking, waker) => {
-                let (woken, spent) = awaking.finish_disconnect();
+            BegunToPart::Ended(spent) => (None, spent),
+            BegunToPart::Awaking(parting, waker) => {
+                let (woken, spent) = parting.finish();
                 if woken {
                     (Some(waker), spent)
                 } else {
@@ -125,7 +122,7 @@ impl<T: Drop> Sender<T> {
     }
 
     /// The first part of `send`: up to the taking of the waker.
-    pub(crate) fn begin_send(self, message: T) -> Begun<T>
+    pub(crate) fn begin_send(self, message: T) -> BegunToSend<T>
         ensures begins { BeginsToSend message self result }
         ensures known { FindsNobody self result }
     {
@@ -133,25 +130,26 @@ impl<T: Drop> Sender<T> {
         end.put_message(message);
         let found = end.add();
         if found == EMPTY {
-            return Begun::Ended(end.into_spent());
+            return BegunToSend::Ended(end.into_spent());
         }
         if found == RECEIVING {
             let waker = end.take_waker();
-            return Begun::Awaking(Awaking { end }, waker);
+            return BegunToSend::Awaking(Sending { end }, waker);
         }
         let message = end.take_message();
-        Begun::Refused(message, end.into_spent())
+        BegunToSend::Refused(message, end.into_spent())
     }
 
     /// The first part of `disconnect`: up to the taking of the waker.
-    pub(crate) fn begin_disconnect(self) -> Begun<T>
-        ensures { BeginsToPart self result }
+    pub(crate) fn begin_disconnect(self) -> BegunToPart<T>
+        ensures begins { BeginsToPart self result }
+        ensures known { LeavesNobody self result }
     {
         let Sender { mut end } = self;
         if end.exclusive_or() == RECEIVING {
             let waker = end.take_waker();
-            return Begun::Awaking(Awaking { end }, waker);
+            return BegunToPart::Awaking(Parting { end }, waker);
         }
-        Begun::Ended(end.into_spent())
+        BegunToPart::Ended(end.into_spent())
     }
 }

@@ -1,8 +1,10 @@
 //! The two ends and what is between them, as one plain state.
 ghost use Rattle.std.specs.Prelude.{◌≡◌, true};
+ghost use Rattle.band_oneshot.specs.Moves.{MovesMessage, MovesWakerBy, KeepsFoundWords};
 ghost use Rattle.band_oneshot.specs.Step.{needs, does, after, start};
 ghost use Rattle.band_oneshot.specs.Stages.{is_awaking, is_cancelling, is_with_receiver};
 ghost use Rattle.band_oneshot.specs.Sound.{IsSound};
+ghost use Rattle.band_oneshot.specs.Words.{is_senders};
 
 use crate::step::OneshotStep;
 use crate::word::{AWAKING, DISCONNECTED, EMPTY, MESSAGE, RECEIVING, UNREAD};
@@ -97,6 +99,9 @@ impl OneshotState {
         ensures taken { result ≡ needs s self.old }
         ensures state { self.new ≡ after s self.old }
         ensures sound { IsSound self.old → IsSound self.new }
+        ensures message { IsSound self.old → MovesMessage self.old.message self.new.message }
+        ensures waker { MovesWakerBy s self.old.waker self.new.waker }
+        ensures found_words { IsSound self.old → KeepsFoundWords (is_senders s) self.old self.new }
     {
         if !self.is_at(s) {
             return false;

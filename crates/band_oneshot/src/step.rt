@@ -3,7 +3,7 @@
 use band_base::Waker;
 
 /// A step of one end: on the word, or on a slot that is its own.
-#[derive(Clone, Copy)]
+#[derive(Clone, Copy, PartialEq, Eq)]
 pub enum OneshotStep {
     /// The sender looks at the word.
     SenderLoad,

@@ -1,4 +1,5 @@
-//! What the two ends know of their channel. No value of these types is made: contracts alone see them.
+//! What the two ends know of their channel, and what a slot has in it. But for `Held` no value of these types is made: contracts
+//! alone see them.
 
 use crate::state::{ReceiverStage, SenderStage};
 use crate::step::OneshotStep;
@@ -50,11 +51,11 @@ pub struct SenderView<T> {
 }
 
 /// What the receiver knows.
-pub struct ReceiverView {
+pub struct ReceiverView<T> {
     /// How far it is.
     pub stage: ReceiverStage,
-    /// Whether it took the message.
-    pub has_message: bool,
+    /// The message that it took out of the channel.
+    pub message: Option<T>,
     /// What became of the slot for the waker.
     pub waker: WakerSlot,
     /// What its last step left of the word.
@@ -70,7 +71,7 @@ pub enum View<T> {
     /// The sender.
     Sends(SenderView<T>),
     /// The receiver.
-    Receives(ReceiverView),
+    Receives(ReceiverView<T>),
 }
 
 /// What a slot of the channel has in it.

@@ -72,20 +72,24 @@ rest_of-byte byte bytes other =
     ap last_part (slice_split-cons_no is_newline byte bytes other) ∙ (rw some.2 (last_onto byte some.0 some.1))
 
 -- the lines of bytes that more are added to
-onto_line-append : (byte : ℕ) (lines : List (List ℕ)) (rest more : List ℕ) → is_newline byte ≡ false → onto_line byte (lines ++ lines_of (rest ++ more)) ≡ onto_line byte lines ++ lines_of (onto_rest byte lines rest ++ more)
+onto_line-append : (byte : ℕ) (lines : List (List ℕ)) (rest more : List ℕ) → is_newline byte ≡ false
+    → onto_line byte (lines ++ lines_of (rest ++ more)) ≡ onto_line byte lines ++ lines_of (onto_rest byte lines rest ++ more)
 onto_line-append byte [] rest more other = sym (lines_of-byte byte (rest ++ more) other)
 onto_line-append byte (line ∷ lines) rest more other = refl
 
-onto_rest-append : (byte : ℕ) (lines : List (List ℕ)) (rest more : List ℕ) → is_newline byte ≡ false → onto_rest byte (lines ++ lines_of (rest ++ more)) (rest_of (rest ++ more)) ≡ rest_of (onto_rest byte lines rest ++ more)
+onto_rest-append : (byte : ℕ) (lines : List (List ℕ)) (rest more : List ℕ) → is_newline byte ≡ false
+    → onto_rest byte (lines ++ lines_of (rest ++ more)) (rest_of (rest ++ more)) ≡ rest_of (onto_rest byte lines rest ++ more)
 onto_rest-append byte [] rest more other = sym (rest_of-byte byte (rest ++ more) other)
 onto_rest-append byte (line ∷ lines) rest more other = refl
 
-lines_after-newline : (byte : ℕ) (bytes more : List ℕ) → is_newline byte ≡ true → lines_of (bytes ++ more) ≡ lines_of bytes ++ lines_of (rest_of bytes ++ more) → lines_of (byte ∷ (bytes ++ more)) ≡ lines_of (byte ∷ bytes) ++ lines_of (rest_of (byte ∷ bytes) ++ more)
+lines_after-newline : (byte : ℕ) (bytes more : List ℕ) → is_newline byte ≡ true → lines_of (bytes ++ more) ≡ lines_of bytes ++ lines_of (rest_of bytes ++ more)
+    → lines_of (byte ∷ (bytes ++ more)) ≡ lines_of (byte ∷ bytes) ++ lines_of (rest_of (byte ∷ bytes) ++ more)
 lines_after-newline byte bytes more ends h =
     lines_of-newline byte (bytes ++ more) ends ∙ ap (λ l. [] ∷ l) h
     ∙ sym (ap (λ l. l ++ lines_of (rest_of (byte ∷ bytes) ++ more)) (lines_of-newline byte bytes ends) ∙ ap (λ r. [] ∷ (lines_of bytes ++ lines_of (r ++ more))) (rest_of-newline byte bytes ends))
 
-lines_after-byte : (byte : ℕ) (bytes more : List ℕ) → is_newline byte ≡ false → lines_of (bytes ++ more) ≡ lines_of bytes ++ lines_of (rest_of bytes ++ more) → lines_of (byte ∷ (bytes ++ more)) ≡ lines_of (byte ∷ bytes) ++ lines_of (rest_of (byte ∷ bytes) ++ more)
+lines_after-byte : (byte : ℕ) (bytes more : List ℕ) → is_newline byte ≡ false → lines_of (bytes ++ more) ≡ lines_of bytes ++ lines_of (rest_of bytes ++ more)
+    → lines_of (byte ∷ (bytes ++ more)) ≡ lines_of (byte ∷ bytes) ++ lines_of (rest_of (byte ∷ bytes) ++ more)
 lines_after-byte byte bytes more other h =
     lines_of-byte byte (bytes ++ more) other ∙ ap (λ l. onto_line byte l) h ∙ onto_line-append byte (lines_of bytes) (rest_of bytes) more other
     ∙ sym (ap (λ l. l ++ lines_of (rest_of (byte ∷ bytes) ++ more)) (lines_of-byte byte bytes other) ∙ ap (λ r. onto_line byte (lines_of bytes) ++ lines_of (r ++ more)) (rest_of-byte byte bytes other))
@@ -96,7 +100,8 @@ lines_of-append (byte ∷ bytes) more =
     let h = lines_of-append bytes more in
     by_bool (is_newline byte) (λ ends. lines_after-newline byte bytes more ends h) (λ other. lines_after-byte byte bytes more other h)
 
-rest_after-byte : (byte : ℕ) (bytes more : List ℕ) → is_newline byte ≡ false → rest_of (bytes ++ more) ≡ rest_of (rest_of bytes ++ more) → rest_of (byte ∷ (bytes ++ more)) ≡ rest_of (rest_of (byte ∷ bytes) ++ more)
+rest_after-byte : (byte : ℕ) (bytes more : List ℕ) → is_newline byte ≡ false → rest_of (bytes ++ more) ≡ rest_of (rest_of bytes ++ more)
+    → rest_of (byte ∷ (bytes ++ more)) ≡ rest_of (rest_of (byte ∷ bytes) ++ more)
 rest_after-byte byte bytes more other h =
     rest_of-byte byte (bytes ++ more) other
     ∙ ap (λ l. onto_rest byte l (rest_of (bytes ++ more))) (lines_of-append bytes more)

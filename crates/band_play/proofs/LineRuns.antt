@@ -69,7 +69,8 @@ pub calls_until : (lines later : List (List ℕ)) (line : List ℕ) → AreCalls
 calls_until lines later line each is =
     calls_of-append lines (line ∷ later) each ∙ ap (λ calls. calls_of lines ++ calls) (no_call_at line (calls_of later) is) ∙ append-nil (calls_of lines)
 
-pub verdict_until : (lines later : List (List ℕ)) (line rest : List ℕ) (over : Bool) → AreCalls lines → call_of line ≡ None → verdict_on (lines ++ line ∷ later) rest over ≡ Malformed (length lines + 1)
+pub verdict_until : (lines later : List (List ℕ)) (line rest : List ℕ) (over : Bool) → AreCalls lines → call_of line ≡ None
+    → verdict_on (lines ++ line ∷ later) rest over ≡ Malformed (length lines + 1)
 verdict_until lines later line rest over each is =
     let until : length (calls_of (lines ++ line ∷ later)) ≡ length lines = ap length (calls_until lines later line each is) ∙ length_calls lines each in
     cond-true (nat_lt (length (calls_of (lines ++ line ∷ later))) (length (lines ++ line ∷ later))) _ _

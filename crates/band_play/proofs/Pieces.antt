@@ -11,7 +11,7 @@ use Rattle.band_play.specs.declared.fault.PlayFault.TheVariants as faults
 use Rattle.band_play.specs.declared.playing.Playing.{Playing}
 use Rattle.band_play.specs.Faults.{fault_of}
 use Rattle.band_script.specs.Grammar.{call_of}
-use Rattle.band_play.specs.Player.{StandsFor}
+use Rattle.band_player.specs.Player.{StandsFor}
 use Rattle.band_rules.specs.Script.{Malformed, verdict_on, lines_of, rest_of, calls_of, transcript, state_from}
 use Rattle.band_play.specs.Lines.{HasNoNewline, Tells, text_after}
 use Rattle.band_play.specs.Playing.{HasRun, HasPlayed, IsMalformedAt, RunsPiece, PlaysPiece, Stops, StopsInPiece}
@@ -25,7 +25,8 @@ pub run_nothing : (playing : Playing) → StandsFor playing.player [] → string
 run_nothing playing stands empty none zero = record { each = tt; count = zero; state = stands; text = empty; held = none }
 
 -- after a line that stands for a call
-line_run : (given front end : List ℕ) (call : Call) (old new : Playing) → HasRun given front old → HasNoNewline end → call_of (rest_of given ++ end) ≡ Some call → Tells call old.player new.player (string_bytes old.text) (string_bytes new.text) → new.lines ≡ old.lines + 1 → new.held ≡ [] → HasRun (given ++ (end ++ 10 ∷ [])) front new
+line_run : (given front end : List ℕ) (call : Call) (old new : Playing) → HasRun given front old → HasNoNewline end → call_of (rest_of given ++ end) ≡ Some call
+    → Tells call old.player new.player (string_bytes old.text) (string_bytes new.text) → new.lines ≡ old.lines + 1 → new.held ≡ [] → HasRun (given ++ (end ++ 10 ∷ [])) front new
 line_run given front end call old new run none is tells next emptied =
     let line = rest_of given ++ end in
     let lines : lines_of (given ++ (end ++ 10 ∷ [])) ≡ lines_of given ++ line ∷ [] = lines_of-end given end [] none in
@@ -47,20 +48,24 @@ line_run given front end call old new run none is tells next emptied =
     counted lines line = omega (arith, length-append lines (line ∷ []))
 
 -- after bytes without a newline
-rest_run : (given front more : List ℕ) (old new : Playing) → HasRun given front old → HasNoNewline more → new.player ≡ old.player → new.text ≡ old.text → new.lines ≡ old.lines → new.held ≡ take 112 (old.held ++ more) → HasRun (given ++ more) front new
+rest_run : (given front more : List ℕ) (old new : Playing) → HasRun given front old → HasNoNewline more → new.player ≡ old.player → new.text ≡ old.text → new.lines ≡ old.lines
+    → new.held ≡ take 112 (old.held ++ more) → HasRun (given ++ more) front new
 rest_run given front more old new run none player text count held =
     let lines = lines_of-rest given more none in
     let P : List (List ℕ) → Type 0 = λ l. AreCalls l in
     record {
       each = subst P (sym lines) run.each;
       count = count ∙ run.count ∙ ap (λ l. length l) (sym lines);
-      state = subst (λ p. StandsFor p (state_from [] (calls_of (lines_of (given ++ more))))) (sym player) (subst (λ s. StandsFor old.player s) (sym (ap (λ l. state_from [] (calls_of l)) lines)) run.state);
+      state = subst (λ p. StandsFor p (state_from [] (calls_of (lines_of (given ++ more))))) (sym player)
+          (subst (λ s. StandsFor old.player s) (sym (ap (λ l. state_from [] (calls_of l)) lines)) run.state);
       text = ap (λ t. front ++ string_bytes t) text ∙ run.text ∙ sym (ap (λ l. transcript (calls_of l)) lines);
       held = held ∙ ap (λ h. take 112 (h ++ more)) run.held ∙ take_again 112 (rest_of given) more ∙ sym (ap (λ r. take 112 r) (rest_of-rest given more none));
     }
 
 -- at a line that stands for no call
-malformed_line : (given front end after more : List ℕ) (playing : Playing) → HasRun given front playing → HasNoNewline end → call_of (rest_of given ++ end) ≡ None → (over : Bool) → (verdict_on (lines_of (given ++ (end ++ 10 ∷ (after ++ more)))) (rest_of (given ++ (end ++ 10 ∷ (after ++ more)))) over ≡ Malformed (playing.lines + 1)) × (transcript (calls_of (lines_of (given ++ (end ++ 10 ∷ (after ++ more))))) ≡ front ++ string_bytes playing.text)
+malformed_line : (given front end after more : List ℕ) (playing : Playing) → HasRun given front playing → HasNoNewline end → call_of (rest_of given ++ end) ≡ None → (over : Bool)
+    → (verdict_on (lines_of (given ++ (end ++ 10 ∷ (after ++ more)))) (rest_of (given ++ (end ++ 10 ∷ (after ++ more)))) over ≡ Malformed (playing.lines + 1))
+    × (transcript (calls_of (lines_of (given ++ (end ++ 10 ∷ (after ++ more))))) ≡ front ++ string_bytes playing.text)
 malformed_line given front end after more playing run none is over =
     let rest = rest_of (given ++ (end ++ 10 ∷ (after ++ more))) in
     let lines = lines_of-end given end (after ++ more) none in (
@@ -82,7 +87,8 @@ pub record RunsUpTo (piece rest : List ℕ) (old new : Playing) : Type 0 where
 abbrev EndsAs : Playing → List ℕ → Option Call → Type 0
 EndsAs playing end call = (start : List ℕ) → playing.held ≡ take 112 start → call ≡ call_of (start ++ end)
 
-pub line_more : (piece rest end after : List ℕ) (call : Call) (old mid new : Playing) → RunsUpTo piece rest old mid → rest ≡ end ++ 10 ∷ after → HasNoNewline end → EndsAs mid end (Some call) → Tells call mid.player new.player (string_bytes mid.text) (string_bytes new.text) → new.lines ≡ mid.lines + 1 → new.held ≡ [] → RunsUpTo piece after old new
+pub line_more : (piece rest end after : List ℕ) (call : Call) (old mid new : Playing) → RunsUpTo piece rest old mid → rest ≡ end ++ 10 ∷ after → HasNoNewline end
+    → EndsAs mid end (Some call) → Tells call mid.player new.player (string_bytes mid.text) (string_bytes new.text) → new.lines ≡ mid.lines + 1 → new.held ≡ [] → RunsUpTo piece after old new
 line_more piece rest end after call old mid new q cut none ends tells next emptied = record {
   done = q.done ++ (end ++ 10 ∷ []);
   whole = append_assoc q.done (end ++ 10 ∷ []) after ∙ ap (λ r. q.done ++ r) (append_assoc end (10 ∷ []) after ∙ sym cut) ∙ q.whole;
@@ -93,13 +99,15 @@ line_more piece rest end after call old mid new q cut none ends tells next empti
       (line_run (given ++ q.done) front end call mid new before none (sym (ends (rest_of (given ++ q.done)) before.held)) tells next emptied);
 }
 
-pub all_run : (piece rest : List ℕ) (old mid new : Playing) → RunsUpTo piece rest old mid → HasNoNewline rest → new.player ≡ mid.player → new.text ≡ mid.text → new.lines ≡ mid.lines → new.held ≡ take 112 (mid.held ++ rest) → RunsPiece None piece old new
+pub all_run : (piece rest : List ℕ) (old mid new : Playing) → RunsUpTo piece rest old mid → HasNoNewline rest → new.player ≡ mid.player → new.text ≡ mid.text → new.lines ≡ mid.lines
+    → new.held ≡ take 112 (mid.held ++ rest) → RunsPiece None piece old new
 all_run piece rest old mid new q none player text count held given front run =
     let P : List ℕ → Type 0 = λ g. HasRun g front new in
     subst P (append_assoc given q.done rest ∙ ap (λ p. given ++ p) q.whole)
     (rest_run (given ++ q.done) front rest mid new (q.runs given front run) none player text count held)
 
-pub malformed_in : (piece rest end after : List ℕ) (old mid : Playing) → RunsUpTo piece rest old mid → rest ≡ end ++ 10 ∷ after → HasNoNewline end → EndsAs mid end None → RunsPiece (Some (mid.lines + 1)) piece old mid
+pub malformed_in : (piece rest end after : List ℕ) (old mid : Playing) → RunsUpTo piece rest old mid → rest ≡ end ++ 10 ∷ after → HasNoNewline end → EndsAs mid end None
+    → RunsPiece (Some (mid.lines + 1)) piece old mid
 malformed_in piece rest end after old mid q cut none ends given front run =
     let before = q.runs given front run in
     let is = sym (ends (rest_of (given ++ q.done)) before.held) in
@@ -119,13 +127,15 @@ malformed_in piece rest end after old mid q cut none ends given front run =
     }
 
 -- what the text of a piece, and of what is before it, comes to
-pub told_in : (malformed : Option ℕ) (piece given front : List ℕ) (old new : Playing) → RunsPiece malformed piece old new → HasRun given front old → front ++ string_bytes new.text ≡ transcript (calls_of (lines_of (given ++ piece)))
+pub told_in : (malformed : Option ℕ) (piece given front : List ℕ) (old new : Playing) → RunsPiece malformed piece old new → HasRun given front old
+    → front ++ string_bytes new.text ≡ transcript (calls_of (lines_of (given ++ piece)))
 told_in None piece given front old new runs run = (runs given front run).text
 told_in (Some line) piece given front old new runs run =
     sym ((runs given front run).transcript_is []) ∙ ap (λ b. transcript (calls_of (lines_of b))) (append-nil (given ++ piece))
 
 -- the whole text of a piece was written
-pub piece_played : (piece : List ℕ) (old mid new : Playing) (x y : Option (List ℕ)) → RunsPiece None piece old mid → Appends x y (string_bytes mid.text) → new ≡ record mid { text = new.text } → string_bytes new.text ≡ [] → PlaysPiece piece old new x y
+pub piece_played : (piece : List ℕ) (old mid new : Playing) (x y : Option (List ℕ)) → RunsPiece None piece old mid → Appends x y (string_bytes mid.text)
+    → new ≡ record mid { text = new.text } → string_bytes new.text ≡ [] → PlaysPiece piece old new x y
 piece_played piece old mid new x y runs adds others emptied given start q =
     let run = runs given q.front q.run in
     record {
@@ -141,17 +151,20 @@ piece_played piece old mid new x y runs adds others emptied given start q =
       emptied = emptied;
     }
 
-pub piece_malformed : (piece : List ℕ) (line : ℕ) (old mid : Playing) (x y : Option (List ℕ)) → RunsPiece (Some line) piece old mid → Appends x y (string_bytes mid.text) → (given : List ℕ) (start : Option (List ℕ)) → HasPlayed given old start x → (text : List ℕ) × IsMalformedAt (given ++ piece) line text × Appends start y text
+pub piece_malformed : (piece : List ℕ) (line : ℕ) (old mid : Playing) (x y : Option (List ℕ)) → RunsPiece (Some line) piece old mid → Appends x y (string_bytes mid.text)
+    → (given : List ℕ) (start : Option (List ℕ)) → HasPlayed given old start x → (text : List ℕ) × IsMalformedAt (given ++ piece) line text × Appends start y text
 piece_malformed piece line old mid x y runs adds given start q =
     (q.front ++ string_bytes mid.text, runs given q.front q.run, Appends-trans start x y q.front (string_bytes mid.text) q.added adds)
 
 -- a front of it was written
-front_in_piece : (malformed : Option ℕ) (piece given : List ℕ) (old mid : Playing) (start x y : Option (List ℕ)) → RunsPiece malformed piece old mid → HasPlayed given old start x → AppendsPrefix (string_bytes mid.text) x y → AppendsPrefix (transcript (calls_of (lines_of (given ++ piece)))) start y
+front_in_piece : (malformed : Option ℕ) (piece given : List ℕ) (old mid : Playing) (start x y : Option (List ℕ)) → RunsPiece malformed piece old mid → HasPlayed given old start x
+    → AppendsPrefix (string_bytes mid.text) x y → AppendsPrefix (transcript (calls_of (lines_of (given ++ piece)))) start y
 front_in_piece malformed piece given old mid start x y runs q adds =
     let P : List ℕ → Type 0 = λ t. AppendsPrefix t start y in
     subst P (told_in malformed piece given q.front old mid runs q.run) (front_after q.front (string_bytes mid.text) start x y q.added adds)
 
-pub piece_unwritten : (malformed : Option ℕ) (error : SinkError) (fault : PlayFault) (piece : List ℕ) (old mid : Playing) (x y : Option (List ℕ)) (before now : ℕ) → fault ≡ fault_of error → RunsPiece malformed piece old mid → AppendsPrefix (string_bytes mid.text) x y → (error ≡ sinks.Failed → Rose before now) → StopsInPiece fault piece old x y before now
+pub piece_unwritten : (malformed : Option ℕ) (error : SinkError) (fault : PlayFault) (piece : List ℕ) (old mid : Playing) (x y : Option (List ℕ)) (before now : ℕ) → fault ≡ fault_of error
+    → RunsPiece malformed piece old mid → AppendsPrefix (string_bytes mid.text) x y → (error ≡ sinks.Failed → Rose before now) → StopsInPiece fault piece old x y before now
 piece_unwritten malformed error fault piece old mid x y before now is runs adds rose given start q =
     let P : PlayFault → Type 0 = λ f. Stops f (given ++ piece) start y before now in
     subst P (sym is) (by_error error rose)

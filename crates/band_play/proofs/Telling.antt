@@ -1,14 +1,15 @@
 -- What a call's text is, once its reply and its wakes are added.
 use Rattle.std.proofs.Common.{◌≡◌, ℕ, List, [], ◌∷◌, ◌++◌, ap, ◌∙◌, append_assoc, flat_map}
 use Rattle.band_script.specs.declared.call.Call.{Call}
-use Rattle.band_play.specs.declared.player.Player.{Player}
+use Rattle.band_player.specs.declared.player.Player.{Player}
 use Rattle.band_rules.specs.declared.reply.Reply.{Reply}
 use Rattle.band_rules.specs.Step.{step}
 use Rattle.band_rules.specs.Text.{reply_text, wake_line}
-use Rattle.band_play.specs.Player.{Follows, Stays, wakers_left}
+use Rattle.band_player.specs.Player.{Follows, Stays, wakers_left}
 use Rattle.band_play.specs.Lines.{text_after, Tells}
 
-pub tells : (call : Call) (old mid new : Player) (reply : Reply) (before between after : List ℕ) → Follows call old reply mid → between ≡ before ++ (reply_text reply ++ 10 ∷ []) → after ≡ between ++ flat_map wake_line (wakers_left mid) → Stays mid new → Tells call old new before after
+pub tells : (call : Call) (old mid new : Player) (reply : Reply) (before between after : List ℕ) → Follows call old reply mid → between ≡ before ++ (reply_text reply ++ 10 ∷ [])
+    → after ≡ between ++ flat_map wake_line (wakers_left mid) → Stays mid new → Tells call old new before after
 tells call old mid new reply before between after follows e f stays state stands =
     let p = follows state stands in
     let W = flat_map wake_line (wakers_left mid) in

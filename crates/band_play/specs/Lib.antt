@@ -1,16 +1,6 @@
-pub mod Answers
-pub mod Apart
 pub mod Faults
-pub mod Kept
 pub mod Lines
-pub mod Moves
-pub mod Names
-pub mod Objects
 pub mod Play
-pub mod Player
+pub use Rattle.band_player.specs.Player
 pub mod Playing
-pub mod Table
 pub mod Text
-pub mod Thing
-pub mod Token
-pub mod Tokens

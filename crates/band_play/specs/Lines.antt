@@ -2,11 +2,11 @@
 use Rattle.std.specs.Prelude.{◌≡◌, ℕ, false, List, ◌++◌}
 use Rattle.std.specs.List.{All}
 use Rattle.band_script.specs.declared.call.Call.{Call}
-use Rattle.band_play.specs.declared.player.Player.{Player}
+use Rattle.band_player.specs.declared.player.Player.{Player}
 use Rattle.band_rules.specs.State.{State}
 use Rattle.band_rules.specs.Step.{step}
 use Rattle.band_rules.specs.Text.{effect_text}
-use Rattle.band_play.specs.Player.{StandsFor}
+use Rattle.band_player.specs.Player.{StandsFor}
 use Rattle.band_rules.specs.Script.{is_newline}
 
 -- no newline stands in it

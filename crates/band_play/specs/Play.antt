@@ -1,7 +1,7 @@
--- What playing a script promises, answer by answer.
-use Rattle.std.specs.Prelude.{◌≡◌, ℕ, ◌≤◌, ◌⊎◌, List, [], ◌∷◌, ◌++◌, length, Option, Some, None, IsSome, Result, Ok, Err}
+-- What playing a script promises.
+use Rattle.std.specs.Prelude.{◌≡◌, ◌≢◌, ℕ, ◌+◌, ◌≤◌, ◌⊎◌, List, [], ◌∷◌, ◌++◌, length, codes, Option, Some, None, IsSome, Result, Ok, Err}
 use Rattle.std.specs.List.{AllByRecursion}
-use Rattle.std.specs.Io.KnownBytes.{Appends}
+use Rattle.std.specs.Io.KnownBytes.{Appends, IsAtEnd}
 use Rattle.band_base.specs.Device.{AppendsPrefix, Rose}
 use Rattle.band_play.specs.Text.{fault_text, usage_text}
 use Rattle.band_play.specs.declared.fault.PlayFault.{PlayFault}
@@ -9,28 +9,32 @@ use Rattle.band_play.specs.declared.fault.PlayFault.TheVariants as faults
 use Rattle.band_script.specs.Grammar.{call_of}
 use Rattle.band_rules.specs.Script.{Verdict, Good, Malformed, TooLong, verdict, lines_of, calls_of, calls_within, transcript}
 
+-- a source or a sink, before and after: the bytes that it tells, which it has left or which were written, and its count of faults
+pub record End : Type 0 where
+  pub before : Option (List ℕ)
+  pub after : Option (List ℕ)
+  pub faults : ℕ
+  pub faults_now : ℕ
+
+-- from how its bytes and its faults are told
+abbrev pub end_of : {D : Type 0} → (D → Option (List ℕ)) → (D → ℕ) → D → D → End
+end_of bytes faults old new = record { before = bytes old; after = bytes new; faults = faults old; faults_now = faults new }
+
+-- its count of faults rose, or stands at the largest number
+abbrev pub HasFailed : End → Type 0
+HasFailed end = Rose end.faults end.faults_now
+
+-- where the source told its bytes: this holds of those that it gave, from their front
+abbrev pub Gave : (List ℕ → Type 0) → Option (List ℕ) → Option (List ℕ) → Type 0
+Gave P None left = Unit {0}
+Gave P (Some bytes) None = ⊥
+Gave P (Some bytes) (Some left) = (given : List ℕ) × (bytes ≡ given ++ left) × P given
+
 -- where the source told its bytes: this is their outcome, and exactly the transcript of their calls was written
 abbrev pub Comes : Verdict → ℕ → Option (List ℕ) → Option (List ℕ) → Option (List ℕ) → Type 0
 Comes outcome limit None before after = Unit {0}
 Comes outcome limit (Some bytes) before after =
     (verdict limit bytes ≡ outcome) × Appends before after (transcript (calls_within limit bytes))
-
--- where the source told its bytes: none is left
-abbrev pub AllRead : Option (List ℕ) → Option (List ℕ) → Type 0
-AllRead None left = Unit {0}
-AllRead (Some bytes) left = left ≡ Some []
-
--- where the source told its bytes: at most this many were taken from their front
-abbrev pub Takes : ℕ → Option (List ℕ) → Option (List ℕ) → Type 0
-Takes n None left = Unit {0}
-Takes n (Some bytes) None = ⊥
-Takes n (Some bytes) (Some left) = (given : List ℕ) × (bytes ≡ given ++ left) × (length given ≤ n)
-
--- where the source told its bytes: just this many were taken from their front
-abbrev pub TakesJust : ℕ → Option (List ℕ) → Option (List ℕ) → Type 0
-TakesJust n None left = Unit {0}
-TakesJust n (Some bytes) None = ⊥
-TakesJust n (Some bytes) (Some left) = (given : List ℕ) × (bytes ≡ given ++ left) × (length given ≡ n)
 
 -- these bytes were given within the limit, each of their ended lines stands for a call, and exactly the transcript of those was written
 pub record PlaysGiven (limit : ℕ) (given : List ℕ) (before after : Option (List ℕ)) : Type 0 where
@@ -38,52 +42,37 @@ pub record PlaysGiven (limit : ℕ) (given : List ℕ) (before after : Option (L
   pub each : AllByRecursion (λ line. IsSome (call_of line)) (lines_of given)
   pub added : Appends before after (transcript (calls_of (lines_of given)))
 
--- where the source told its bytes: it failed after it gave some, and those were played
-abbrev pub StopsEarly : ℕ → Option (List ℕ) → Option (List ℕ) → Option (List ℕ) → Option (List ℕ) → Type 0
-StopsEarly limit None left before after = Unit {0}
-StopsEarly limit (Some bytes) None before after = ⊥
-StopsEarly limit (Some bytes) (Some left) before after =
-    (given : List ℕ) × (bytes ≡ given ++ left) × PlaysGiven limit given before after
+-- what each answer says
+abbrev pub Answers : Result ℕ PlayFault → ℕ → End → End → Type 0
+Answers (Ok lines) limit source sink = Comes (Good lines) limit source.before sink.before sink.after × IsAtEnd source.after
+Answers (Err (faults.Malformed line)) limit source sink = Comes (Malformed line) limit source.before sink.before sink.after
+Answers (Err faults.TooLong) limit source sink =
+    Comes TooLong limit source.before sink.before sink.after × Gave (λ given. length given ≡ limit + 1) source.before source.after
+Answers (Err faults.Read) limit source sink =
+    HasFailed source × Gave (λ given. PlaysGiven limit given sink.before sink.after) source.before source.after
+Answers (Err faults.Write) limit source sink = HasFailed sink
+Answers (Err faults.NoMemory) limit source sink = Unit {0}
 
--- where the source told its bytes: what was written is a prefix of the transcript of the lines that it gave
-abbrev pub WritesFront : ℕ → Option (List ℕ) → Option (List ℕ) → Option (List ℕ) → Option (List ℕ) → Type 0
-WritesFront limit None left before after = Unit {0}
-WritesFront limit (Some bytes) None before after = ⊥
-WritesFront limit (Some bytes) (Some left) before after =
-    (given : List ℕ) × (bytes ≡ given ++ left) × AppendsPrefix (transcript (calls_within limit given)) before after
-
--- what was written begins with this text
-abbrev pub BeginsWith : List ℕ → Option (List ℕ) → Option (List ℕ) → Type 0
-BeginsWith text before after = (rest : List ℕ) × Appends before after (text ++ rest)
-
--- but for at most 4096 bytes at its end, what was given stands within the limit, each of its ended lines stands for a call, and
--- it was answered
-pub record AnswersGiven (limit : ℕ) (given : List ℕ) (before after : Option (List ℕ)) : Type 0 where
+-- Of what was given, whatever the answer is: it is at most one byte more than the limit, and a prefix of the transcript of its lines
+-- was written. But for at most 4096 bytes at its end, it stands within the limit, each of its ended lines stands for a call, and what
+-- was written begins with their transcript.
+pub record KeepsUp (limit : ℕ) (given : List ℕ) (before after : Option (List ℕ)) : Type 0 where
+  pub takes : length given ≤ limit + 1
+  pub front : AppendsPrefix (transcript (calls_within limit given)) before after
   pub played : List ℕ
   pub end : List ℕ
   pub whole : played ++ end ≡ given
   pub most : length end ≤ 4096
   pub within : length played ≤ limit
   pub each : AllByRecursion (λ line. IsSome (call_of line)) (lines_of played)
-  pub answered : BeginsWith (transcript (calls_of (lines_of played))) before after
+  pub answered : (text : List ℕ) × Appends before after (transcript (calls_of (lines_of played)) ++ text)
 
--- where the source told its bytes: all but an end of what it gave was played and answered, whatever came of that end
-abbrev pub KeepsUp : ℕ → Option (List ℕ) → Option (List ℕ) → Option (List ℕ) → Option (List ℕ) → Type 0
-KeepsUp limit None left before after = Unit {0}
-KeepsUp limit (Some bytes) None before after = ⊥
-KeepsUp limit (Some bytes) (Some left) before after =
-    (given : List ℕ) × (bytes ≡ given ++ left) × AnswersGiven limit given before after
-
--- the answer that tells an outcome
-abbrev pub answer_of : Verdict → Result ℕ PlayFault
-answer_of (Good lines) = Ok lines
-answer_of (Malformed line) = Err (faults.Malformed line)
-answer_of TooLong = Err faults.TooLong
-
--- where the source told its bytes: the answer tells their outcome, or there was no memory
-abbrev pub Completes : ℕ → Option (List ℕ) → Result ℕ PlayFault → Type 0
-Completes limit None answer = Unit {0}
-Completes limit (Some bytes) answer = (answer ≡ answer_of (verdict limit bytes)) ⊎ (answer ≡ Err faults.NoMemory)
+-- The promise of `play`. Where neither end has failed, its answer is the outcome, or that there was no memory.
+pub record Plays (limit : ℕ) (source sink : End) (answer : Result ℕ PlayFault) : Type 0 where
+  pub answers : Answers answer limit source sink
+  pub keeps_up : Gave (λ given. KeepsUp limit given sink.before sink.after) source.before source.after
+  pub reads_never_fall : source.faults ≤ source.faults_now
+  pub writes_never_fall : sink.faults ≤ sink.faults_now
 
 -- the most bytes of a script that the program plays
 abbrev pub program_limit : ℕ
@@ -93,39 +82,29 @@ program_limit = 16777216
 abbrev pub IsStatus : ℕ → Type 0
 IsStatus status = (status ≡ 0) ⊎ ((2 ≤ status) × (status ≤ 7))
 
-abbrev pub status_of : Result ℕ PlayFault → ℕ
-status_of (Ok lines) = 0
-status_of (Err (faults.Malformed line)) = 3
-status_of (Err faults.TooLong) = 4
-status_of (Err faults.Read) = 5
-status_of (Err faults.Write) = 6
-status_of (Err faults.NoMemory) = 7
+abbrev pub status_of : PlayFault → ℕ
+status_of (faults.Malformed line) = 3
+status_of faults.TooLong = 4
+status_of faults.Read = 5
+status_of faults.Write = 6
+status_of faults.NoMemory = 7
 
--- where the source told its bytes: the status tells their outcome, or there was no memory
-abbrev pub CompletesAs : ℕ → Option (List ℕ) → ℕ → Type 0
-CompletesAs limit None status = Unit {0}
-CompletesAs limit (Some bytes) status = (status ≡ status_of (answer_of (verdict limit bytes))) ⊎ (status ≡ 7)
+-- a text was told: all of it, or a prefix of it where the sink has failed
+abbrev pub Told : List ℕ → End → Type 0
+Told text sink = Appends sink.before sink.after text ⊎ (AppendsPrefix text sink.before sink.after × HasFailed sink)
 
--- a text was told: all of it, or a prefix of it where the sink's count of faults rose or stands at its last number
-abbrev pub ToldText : List ℕ → Option (List ℕ) → Option (List ℕ) → ℕ → ℕ → Type 0
-ToldText text before after faults faults_now = Appends before after text ⊎ (AppendsPrefix text before after × Rose faults faults_now)
+-- a text was told with its status; or there was no memory for that, and so a prefix of it with status 7
+abbrev pub ToldWith : ℕ → List ℕ → ℕ → End → Type 0
+ToldWith own text status sink =
+    ((status ≡ own) × Told text sink) ⊎ ((status ≡ 7) × AppendsPrefix text sink.before sink.after)
 
--- the same of a line
-abbrev pub Told : List ℕ → Option (List ℕ) → Option (List ℕ) → ℕ → ℕ → Type 0
-Told line before after faults faults_now = ToldText (line ++ 10 ∷ []) before after faults faults_now
+-- the program ends as an answer of `play` says: where all is well with nothing told, else with the text of the fault
+abbrev pub EndsWith : Result ℕ PlayFault → ℕ → End → Type 0
+EndsWith (Ok lines) status sink = status ≡ 0
+EndsWith (Err fault) status sink = ToldWith (status_of fault) (fault_text fault ++ 10 ∷ []) status sink
 
--- one of the lines that the program tells
-abbrev pub IsTold : List ℕ → Type 0
-IsTold line = (line ≡ usage_text) ⊎ ((fault : PlayFault) × (line ≡ fault_text fault))
-
--- out of memory: a prefix of one of them was told, if only an empty one
-abbrev pub ToldFront : Option (List ℕ) → Option (List ℕ) → Type 0
-ToldFront before after = (line : List ℕ) × IsTold line × AppendsPrefix (line ++ 10 ∷ []) before after
-
--- what is told with each status but 0 and 3
-pub record ToldWith (status : ℕ) (before after : Option (List ℕ)) (count count_now : ℕ) : Type 0 where
-  pub usage : status ≡ 2 → Told usage_text before after count count_now
-  pub too_long : status ≡ 4 → Told (fault_text faults.TooLong) before after count count_now
-  pub read : status ≡ 5 → Told (fault_text faults.Read) before after count count_now
-  pub write : status ≡ 6 → Told (fault_text faults.Write) before after count count_now
-  pub no_memory : status ≡ 7 → ToldFront before after
+-- the promise of the program: `play` is its one word, and it plays and ends with the answer of that; or it tells how it is used
+abbrev pub Runs : List (List ℕ) → End → End → End → ℕ → Type 0
+Runs words source sink told status =
+    ((words ≡ codes "play" ∷ []) × ((answer : Result ℕ PlayFault) × Plays program_limit source sink answer × EndsWith answer status told))
+    ⊎ ((words ≢ codes "play" ∷ []) × ToldWith 2 (usage_text ++ 10 ∷ []) status told)

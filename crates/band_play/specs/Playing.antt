@@ -1,5 +1,5 @@
 -- How far a script is played.
-use Rattle.std.specs.Prelude.{◌≡◌, ℕ, Bool, List, [], ◌++◌, length, take, string_bytes, Option, Some, None, IsSome}
+use Rattle.std.specs.Prelude.{◌≡◌, ℕ, ◌+◌, Bool, List, [], ◌∷◌, ◌++◌, length, take, string_bytes, Option, Some, None, IsSome, Result, Ok, Err}
 use Rattle.std.specs.List.{AllByRecursion}
 use Rattle.std.specs.Io.KnownBytes.{Appends}
 use Rattle.band_base.specs.Device.{AppendsPrefix, Rose}
@@ -7,7 +7,7 @@ use Rattle.band_play.specs.declared.fault.PlayFault.{PlayFault}
 use Rattle.band_play.specs.declared.fault.PlayFault.TheVariants as faults
 use Rattle.band_play.specs.declared.playing.Playing.{Playing}
 use Rattle.band_script.specs.Grammar.{call_of}
-use Rattle.band_play.specs.Player.{StandsFor}
+use Rattle.band_player.specs.Player.{StandsFor}
 use Rattle.band_rules.specs.Script.{Malformed, verdict_on, lines_of, rest_of, calls_of, transcript, state_from}
 
 -- the ended lines of these bytes are run, each stands for a call, and their text is `front` and what is not written yet
@@ -54,6 +54,11 @@ Stops faults.NoMemory bytes start now old new = AppendsPrefix (transcript (calls
 abbrev pub StopsInPiece : PlayFault → List ℕ → Playing → Option (List ℕ) → Option (List ℕ) → ℕ → ℕ → Type 0
 StopsInPiece fault piece playing before after old new =
     (given : List ℕ) (start : Option (List ℕ)) → HasPlayed given playing start before → Stops fault (given ++ piece) start after old new
+
+-- the answer at the end of the bytes, once so many lines were played and this is held
+abbrev pub answer_at_end : ℕ → List ℕ → Result ℕ PlayFault
+answer_at_end lines [] = Ok lines
+answer_at_end lines (byte ∷ held) = Err (faults.Malformed (lines + 1))
 
 -- some text was added at the end of what was written
 abbrev pub AddsSome : Option (List ℕ) → Option (List ℕ) → Type 0

@@ -1,23 +1,15 @@
-//! Scripts of calls on named objects: the player, and the program over bytes. The language and the rules stand below it.
+//! Scripts over bytes: the telling of their calls, and the program. The player, the language and the rules stand below it.
 #![tactic(auto)]
 
-mod boxed_token;
 mod fault;
 mod held;
-mod holding;
 mod lines;
-mod names;
-mod object;
-mod player;
 mod playing;
 mod print;
 mod program;
-mod request;
 mod script;
-mod table;
-mod token;
-mod tokens;
 
+pub use band_player::Player;
 pub use band_rules::{
     Reply, a_front_is_granted, heads_wait, lines_stand_in_turn, locks_are_for_readers,
     no_more_than_all, numbers_fit, only_giving_back_wakes, permits_are_kept,
@@ -25,7 +17,6 @@ pub use band_rules::{
 };
 pub use band_script::{Call, Name, decodes_exactly, longest_line, one_call, parse_line};
 pub use fault::PlayFault;
-pub use player::Player;
 pub use program::run;
 pub use script::play;
 

@@ -1,7 +1,7 @@
 //! Lines: where they end, and the telling of their calls.
 ghost use Rattle.std.specs.Prelude.{◌≡◌, [], ◌∷◌, ◌++◌, OnOk, MatchOption, string_bytes, flat_map};
 ghost use Rattle.band_script.specs.Call.{ForReaders};
-ghost use Rattle.band_play.specs.Player.{wakers_left, Stays};
+ghost use Rattle.band_player.specs.Player.{wakers_left, Stays};
 ghost use Rattle.band_rules.specs.Text.{wake_line};
 ghost use Rattle.band_play.specs.Lines.{HasNoNewline, Tells};
 
@@ -31,7 +31,8 @@ pub(crate) fn tell_call<L: Ledger>(
 ) -> Result<(), AllocError>
     requires quiet { wakers_left player.old ≡ [] }
     requires readers { ForReaders call }
-    ensures tells { OnOk result (Tells call player.old player.new (string_bytes text.old) (string_bytes text.new)) }
+    ensures tells { OnOk result
+        (Tells call player.old player.new (string_bytes text.old) (string_bytes text.new)) }
     ensures quiet { OnOk result (wakers_left player.new ≡ []) }
 {
     let reply = player.run(call, steps)?;
@@ -41,7 +42,8 @@ pub(crate) fn tell_call<L: Ledger>(
 
 /// Takes the wakers of the last step, and adds their lines.
 fn push_wakes(player: &mut Player, text: &mut String) -> Result<(), AllocError>
-    ensures added { OnOk result (string_bytes text.new ≡ string_bytes text.old ++ flat_map wake_line (wakers_left player.old)) }
+    ensures added { OnOk result
+        (string_bytes text.new ≡ string_bytes text.old ++ flat_map wake_line (wakers_left player.old)) }
     ensures quiet { OnOk result (wakers_left player.new ≡ []) }
     ensures state { Stays player.old player.new }
 {

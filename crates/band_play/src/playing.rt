@@ -2,9 +2,8 @@
 ghost use Rattle.std.specs.Prelude.{◌≡◌, ◌+◌, ◌<◌, ◌≤◌, [], ◌++◌, length, OnOk, OnErr, IfOk, IfErr, Err, string_bytes};
 ghost use Rattle.std.specs.Io.KnownBytes.{Appends};
 ghost use Rattle.band_base.specs.Device.{Rose, AppendsPrefix};
-ghost use Rattle.band_play.specs.Player.{wakers_left};
-ghost use Rattle.band_play.specs.Playing.{HasRun, RunsPiece, PlaysPiece, StopsInPiece, AddsSome};
-ghost use Rattle.band_play.specs.Answers.{answer_at_end};
+ghost use Rattle.band_player.specs.Player.{wakers_left};
+ghost use Rattle.band_play.specs.Playing.{HasRun, RunsPiece, PlaysPiece, StopsInPiece, AddsSome, answer_at_end};
 
 use crate::held::HeldLine;
 use crate::lines::{split_line, tell_call};
@@ -50,8 +49,10 @@ impl Playing {
     ) -> Result<(), PlayFault>
         requires quiet { wakers_left self.old.player ≡ [] }
         requires countable { self.old.lines + length piece.now ≤ u64.MAX }
-        ensures plays { OnOk result (PlaysPiece piece.now self.old self.new (D.written dst.old) (D.written dst.new)) }
-        ensures stops { IfErr result (λ fault. StopsInPiece fault piece.now self.old (D.written dst.old) (D.written dst.new) (D.faults dst.old) (D.faults dst.new)) }
+        ensures plays { OnOk result
+            (PlaysPiece piece.now self.old self.new (D.written dst.old) (D.written dst.new)) }
+        ensures stops { IfErr result (λ fault. StopsInPiece fault piece.now self.old
+            (D.written dst.old) (D.written dst.new) (D.faults dst.old) (D.faults dst.new)) }
         // Whatever the answer is.
         ensures adds { AddsSome (D.written dst.old) (D.written dst.new) }
         ensures quiet { OnOk result (wakers_left self.new.player ≡ []) }
@@ -93,8 +94,10 @@ impl Playing {
 
     /// Writes the text so far.
     fn write_text<D: Sink>(&mut self, dst: &mut D) -> Result<(), SinkError>
-        ensures ok { OnOk result (Appends (D.written dst.old) (D.written dst.new) (string_bytes self.old.text)) }
-        ensures err { OnErr result (AppendsPrefix (string_bytes self.old.text) (D.written dst.old) (D.written dst.new)) }
+        ensures ok { OnOk result
+            (Appends (D.written dst.old) (D.written dst.new) (string_bytes self.old.text)) }
+        ensures err { OnErr result
+            (AppendsPrefix (string_bytes self.old.text) (D.written dst.old) (D.written dst.new)) }
         ensures emptied { OnOk result (string_bytes self.new.text ≡ []) }
         ensures others { self.new ≡ record self.old { text = self.new.text } }
         ensures never_fall { D.faults dst.old ≤ D.faults dst.new }

@@ -4,8 +4,7 @@ ghost use Rattle.band_play.specs.Text.{fault_text};
 ghost use Rattle.band_rules.specs.Text.{refusal_word, reply_text, wake_line};
 
 use crate::{PlayFault, Reply};
-use band_base::Waker;
-use band_sem::Refusal;
+use band_base::{Refusal, Waker};
 use std::alloc::AllocError;
 use std::fmt::Write;
 
@@ -38,7 +37,8 @@ fn push_figures(
     granted: u64,
     held: u64,
 ) -> Result<(), AllocError>
-    ensures { OnOk result (string_bytes out.new ≡ string_bytes out.old ++ (reply_text (Reply.Figures available free waiting granted held) ++ 10 ∷ [])) }
+    ensures { OnOk result (string_bytes out.new ≡ string_bytes out.old
+        ++ (reply_text (Reply.Figures available free waiting granted held) ++ 10 ∷ [])) }
 {
     writeln!(
         out,

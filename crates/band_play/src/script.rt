@@ -1,10 +1,8 @@
 //! The playing of a script from a source to a sink.
-ghost use Rattle.std.specs.Prelude.{◌≡◌, ℕ, ◌+◌, ◌<◌, ◌≤◌, [], take, length, OnOk, OnErr, IfOk, Err};
+ghost use Rattle.std.specs.Prelude.{◌≡◌, ◌+◌, ◌<◌, ◌≤◌, [], take, length, OnErr, IfOk};
 ghost use Rattle.std.specs.Io.KnownBytes.{Consumes, Keeps, IsAtEnd};
 ghost use Rattle.band_base.specs.Device.{Rose};
-ghost use Rattle.band_rules.specs.Script.{Good, Malformed, TooLong};
-ghost use Rattle.band_play.specs.Play.{Comes, AllRead, Takes, TakesJust, StopsEarly, WritesFront, KeepsUp, Completes};
-ghost use Rattle.band_play.specs.Answers.{Answers};
+ghost use Rattle.band_play.specs.Play.{Plays, end_of};
 
 use crate::PlayFault;
 use crate::playing::Playing;
@@ -25,43 +23,8 @@ pub fn play<S: Source, D: Sink, L: Ledger>(
 ) -> Result<u64, PlayFault>
     // One byte more than the limit is asked for.
     requires { limit < u64.MAX }
-    ensures ok { IfOk result (λ lines. Comes (Good lines) limit (S.left src.old) (D.written dst.old) (D.written dst.new)) }
-    ensures all_read { OnOk result (AllRead (S.left src.old) (S.left src.new)) }
-    ensures takes { Takes (limit + 1) (S.left src.old) (S.left src.new) }
-    ensures malformed { (line : ℕ) → result ≡ Err (PlayFault.Malformed line) → Comes (Malformed line) limit (S.left src.old) (D.written dst.old) (D.written dst.new) }
-    ensures too_long { result ≡ Err PlayFault.TooLong → Comes TooLong limit (S.left src.old) (D.written dst.old) (D.written dst.new) }
-    ensures past { result ≡ Err PlayFault.TooLong → TakesJust (limit + 1) (S.left src.old) (S.left src.new) }
-    ensures read { result ≡ Err PlayFault.Read → Rose (S.faults src.old) (S.faults src.new) }
-    ensures stops { result ≡ Err PlayFault.Read → StopsEarly limit (S.left src.old) (S.left src.new) (D.written dst.old) (D.written dst.new) }
-    ensures write { result ≡ Err PlayFault.Write → Rose (D.faults dst.old) (D.faults dst.new) }
-    // Whatever the answer is.
-    ensures front { WritesFront limit (S.left src.old) (S.left src.new) (D.written dst.old) (D.written dst.new) }
-    // What was given is answered, but for an end of it.
-    ensures keeps_up { KeepsUp limit (S.left src.old) (S.left src.new) (D.written dst.old) (D.written dst.new) }
-    // Where neither count of faults rose or stands at its last number, the answer tells the outcome, or that it is out of memory.
-    ensures completes { (Rose (S.faults src.old) (S.faults src.new) → ⊥) → (Rose (D.faults dst.old) (D.faults dst.new) → ⊥) → Completes limit (S.left src.old) result }
-    ensures reads_never_fall { S.faults src.old ≤ S.faults src.new }
-    ensures writes_never_fall { D.faults dst.old ≤ D.faults dst.new }
-{
-    play_pieces(alloc, src, dst, limit, steps)
-}
-
-/// Plays each piece before the next is read.
-fn play_pieces<S: Source, D: Sink, L: Ledger>(
-    alloc: Global,
-    src: &mut S,
-    dst: &mut D,
-    limit: u64,
-    steps: &mut Steps<L>,
-) -> Result<u64, PlayFault>
-    requires { limit < u64.MAX }
-    ensures answers { Answers result limit (S.left src.old) (S.left src.new) (D.written dst.old) (D.written dst.new)
-        (record { reads = S.faults src.old; reads_now = S.faults src.new; writes = D.faults dst.old; writes_now = D.faults dst.new }) }
-    ensures front { WritesFront limit (S.left src.old) (S.left src.new) (D.written dst.old) (D.written dst.new) }
-    ensures keeps_up { KeepsUp limit (S.left src.old) (S.left src.new) (D.written dst.old) (D.written dst.new) }
-    ensures takes { Takes (limit + 1) (S.left src.old) (S.left src.new) }
-    ensures reads_never_fall { S.faults src.old ≤ S.faults src.new }
-    ensures writes_never_fall { D.faults dst.old ≤ D.faults dst.new }
+    ensures { Plays limit (end_of S.left S.faults src.old src.new)
+        (end_of D.written D.faults dst.old dst.new) result }
 {
     let mut playing = Playing::new(alloc);
     let mut piece = [0; PIECE];

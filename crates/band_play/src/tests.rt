@@ -2,8 +2,7 @@
 
 use crate::Reply;
 use crate::print::{push_reply, push_wake};
-use band_base::Waker;
-use band_sem::Refusal;
+use band_base::{Refusal, Waker};
 use std::test::Fail;
 
 #[test]

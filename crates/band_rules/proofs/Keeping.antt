@@ -1,18 +1,21 @@
 -- Permits are kept by each step, and so over any calls.
-use Rattle.std.proofs.Common.{◌≡◌, ℕ, true, false, cond, List, [], ◌∷◌, ◌++◌, Option, Some, ℤ, pos, ◌+ℤ◌, refl, sym, ap, ap₂, ◌∙◌, subst, arith, append-nil}
+use Rattle.std.proofs.Common.{◌≡◌, ℕ, ◌+◌, None, true, false, cond, List, [], ◌∷◌, ◌++◌, Option, Some, ℤ, pos, ◌+ℤ◌, refl, sym, ap, ◌∙◌, subst, arith, append-nil}
 use Rattle.std.specs.List.{AllByRecursion}
 use Rattle.std.specs.Str.{bytes_eq}
 use Rattle.std.proofs.lemmas.Int.{ints}
-use Rattle.std.proofs.lemmas.Bool.{cond-true, cond-false}
-use Rattle.band_balance.specs.Laws.{permits, LetsIn}
+use Rattle.std.proofs.lemmas.Bool.{cond_both, cond-true, cond-false}
+use Rattle.band_base.specs.declared.refusal.Refusal.{Refusal}
+use Rattle.band_balance.specs.Laws.{LetsIn}
 use Rattle.band_balance.specs.Object.{Object}
-use Rattle.band_balance.specs.Rule.{Rule, act}
+use Rattle.band_balance.specs.Rule.{Rule, act, brought, removed}
 use Rattle.band_balance.proofs.Held.{by_bool}
 use Rattle.band_balance.proofs.Rules.{bytes_told, adds_up-act}
 use Rattle.band_script.specs.Call.{ForReaders}
 use Rattle.band_script.specs.declared.call.Call.{Call}
-use Rattle.band_rules.specs.Kept.{object_named, permits_of, brought_by, removed_by, brought_from, removed_from}
-use Rattle.band_rules.specs.Plan.{Plan, Make, Act, plan}
+use Rattle.band_script.specs.declared.call.Call.TheVariants as calls
+use Rattle.band_rules.specs.declared.reply.Reply.TheVariants as replies
+use Rattle.band_rules.specs.Permits.{object_named, permits_of, brought_by, removed_by, brought_from, removed_from}
+use Rattle.band_rules.specs.Plan.{Refuse, Make, Act}
 use Rattle.band_rules.specs.Script.{state_from, state_after}
 use Rattle.band_rules.specs.State.{State, Named, Tag}
 use Rattle.band_rules.specs.Step.{Effect, perform, with_object, step}
@@ -57,61 +60,82 @@ object_named-with_other name object {named = named} (later {first = first} {rest
     ap (object_named name) (with_object_later named first object rest other)
     ∙ ap (λ o. cond (bytes_eq name first.name) (Some first.object) o) (object_named-with_other name object at apart)
 
--- The sums alone.
-comes_new : (z : ℤ) → z +ℤ pos 0 ≡ pos 0 +ℤ z
-comes_new z = omega (arith, ints)
+-- a refused call counts for nothing
+refused_counts : (call : Call) (state : State) (name : List ℕ) (refusal : Refusal) → (brought_by name call (replies.Refused refusal) ≡ 0) × (removed_by name state call (replies.Refused refusal) ≡ 0)
+refused_counts (calls.Sem made n) state name refusal = (cond_both (bytes_eq name made) 0 0 (λ m. m ≡ 0) (λ h. refl) (λ h. refl), refl)
+refused_counts (calls.Mutex made) state name refusal = (cond_both (bytes_eq name made) 0 0 (λ m. m ≡ 0) (λ h. refl) (λ h. refl), refl)
+refused_counts (calls.Rw made n) state name refusal = (cond_both (bytes_eq name made) 0 0 (λ m. m ≡ 0) (λ h. refl) (λ h. refl), refl)
+refused_counts (calls.Release of n) state name refusal = (cond_both (bytes_eq name of) 0 0 (λ m. m ≡ 0) (λ h. refl) (λ h. refl), refl)
+refused_counts (calls.Reduce of n) state name refusal = (refl, cond_both (bytes_eq name of) 0 0 (λ m. m ≡ 0) (λ h. refl) (λ h. refl))
+refused_counts (calls.Drain of n) state name refusal = (refl, cond_both (bytes_eq name of) 0 0 (λ m. m ≡ 0) (λ h. refl) (λ h. refl))
+refused_counts call state name refusal = (cc, cc)
 
-chained : (before between after came gone came' gone' : ℤ) → between +ℤ gone ≡ before +ℤ came → after +ℤ gone' ≡ between +ℤ came' → after +ℤ (gone +ℤ gone') ≡ before +ℤ (came +ℤ came')
+-- The sums alone.
+chained : (before between after : ℤ) (came gone came' gone' : ℕ) → between +ℤ pos gone ≡ before +ℤ pos came → after +ℤ pos gone' ≡ between +ℤ pos came' → after +ℤ pos (gone + gone') ≡ before +ℤ pos (came + came')
 chained before between after came gone came' gone' e k = omega (arith, ints)
 
 module _ (name : List ℕ) (state : State) (is : IsInOrder state) (lets : AllByRecursion (λ (named : Named). LetsIn named.object.kind) state) (call : Call) where
-  abbrev Balances : Plan → Effect → Type 0
-  Balances plan effect = permits_of (object_named name effect.state) +ℤ removed_by name plan ≡ permits_of (object_named name state) +ℤ brought_by name plan
+  abbrev Balances : Effect → Type 0
+  Balances effect =
+      permits_of (object_named name effect.state) +ℤ pos (removed_by name state call effect.reply) ≡ permits_of (object_named name state) +ℤ pos (brought_by name call effect.reply)
 
-  balances-made : (made : List ℕ) (object : Object Tag) → MayMake call state made object → Balances (Make made object) (perform (Make made object) state)
+  balances-refused : (refusal : Refusal) → Balances (perform (Refuse refusal) state)
+  balances-refused refusal = let none = refused_counts call state name refusal in rw (none.0, none.1) refl
+
+  -- what is counted where the name is the object's, and where it isn't
+  counted : (effect : Effect) (came gone : ℕ) → removed_by name state call effect.reply ≡ gone → brought_by name call effect.reply ≡ came
+      → permits_of (object_named name effect.state) +ℤ pos gone ≡ permits_of (object_named name state) +ℤ pos came → Balances effect
+  counted effect came gone e f balances = rw (e, f) balances
+
+  balances-made : (made : List ℕ) (object : Object Tag) → MayMake call state made object → Balances (perform (Make made object) state)
   balances-made made object may =
       let new : Named = record { name = made; object = object } in
       by_bool (bytes_eq name made)
       (λ h.
       let same : made ≡ name = sym (bytes_told.equal name made h) in
       let none : AllByRecursion (IsAbsent name) state = subst (λ (n : List ℕ). AllByRecursion (IsAbsent n) state) same may.none in
-      ap (λ (o : Option (Object Tag)). permits_of o +ℤ pos 0) (object_named-absent name state (new ∷ []) none ∙ named_first name new [] h)
-      ∙ comes_new (permits object)
-      ∙ sym (ap₂ (λ (o : Option (Object Tag)) z. permits_of o +ℤ z) (ap (object_named name) (sym (append-nil state)) ∙ object_named-absent name state [] none) (cond-true (bytes_eq name made) _ _ h)))
+      let before : object_named name state ≡ None = ap (object_named name) (sym (append-nil state)) ∙ object_named-absent name state [] none in
+      let after : object_named name (state ++ new ∷ []) ≡ Some object = object_named-absent name state (new ∷ []) none ∙ named_first name new [] h in
+      counted (perform (Make made object) state) may.count 0 (may.counts.removes name ∙ cond-true _ _ _ h) (may.counts.brings name ∙ cond-true _ _ _ h)
+      (rw (before, after) (ap (λ (z : ℤ). z +ℤ pos 0) may.made_with ∙ turned may.count)))
       (λ h.
-      ap (λ (o : Option (Object Tag)). permits_of o +ℤ pos 0) (object_named-push_other name state new h)
-      ∙ sym (ap (λ z. permits_of (object_named name state) +ℤ z) (cond-false (bytes_eq name made) _ _ h)))
+      counted (perform (Make made object) state) 0 0 (may.counts.removes name ∙ cond-false _ _ _ h) (may.counts.brings name ∙ cond-false _ _ _ h)
+      (ap (λ (o : Option (Object Tag)). permits_of o +ℤ pos 0) (object_named-push_other name state new h)))
+    where
+      turned : (n : ℕ) → pos n +ℤ pos 0 ≡ pos 0 +ℤ pos n
+      turned n = omega (arith, ints)
 
-  balances-acted : (of : Named) (rule : Rule (List ℕ)) → MayAct call state of rule → Balances (Act of rule) (perform (Act of rule) state)
+  balances-acted : (of : Named) (rule : Rule (List ℕ)) → MayAct call state of rule → Balances (perform (Act of rule) state)
   balances-acted of rule may =
       let object = (act bytes_eq rule of.object).object in
       by_bool (bytes_eq name of.name)
       (λ h.
       let same : name ≡ of.name = bytes_told.equal name of.name h in
-      ap₂ (λ (o : Option (Object Tag)) z. permits_of o +ℤ z)
-      (ap (λ (n : List ℕ). object_named n (with_object of.name object state)) same ∙ object_named-with_object object may.at) (cond-true (bytes_eq name of.name) _ _ h)
-      ∙ adds_up-act bytes_eq bytes_told rule of.object may.allowed (all_at _ may.at lets)
-      ∙ sym (ap₂ (λ (o : Option (Object Tag)) z. permits_of o +ℤ z) (ap (λ (n : List ℕ). object_named n state) same ∙ object_named-at may.at) (cond-true (bytes_eq name of.name) _ _ h)))
+      let before : object_named name state ≡ Some of.object = ap (λ (n : List ℕ). object_named n state) same ∙ object_named-at may.at in
+      let after : object_named name (with_object of.name object state) ≡ Some object =
+      ap (λ (n : List ℕ). object_named n (with_object of.name object state)) same ∙ object_named-with_object object may.at in
+      counted (perform (Act of rule) state) (brought rule) (removed bytes_eq rule of.object) (may.counts.removes name ∙ cond-true _ _ _ h) (may.counts.brings name ∙ cond-true _ _ _ h)
+      (rw (before, after) (adds_up-act bytes_eq bytes_told rule of.object may.allowed (all_at _ may.at lets))))
       (λ h.
-      ap₂ (λ (o : Option (Object Tag)) z. permits_of o +ℤ z) (object_named-with_other name object may.at h) (cond-false (bytes_eq name of.name) _ _ h)
-      ∙ sym (ap (λ z. permits_of (object_named name state) +ℤ z) (cond-false (bytes_eq name of.name) _ _ h)))
+      counted (perform (Act of rule) state) 0 0 (may.counts.removes name ∙ cond-false _ _ _ h) (may.counts.brings name ∙ cond-false _ _ _ h)
+      (ap (λ (o : Option (Object Tag)). permits_of o +ℤ pos 0) (object_named-with_other name object may.at h)))
 
-  balances : Balances (plan call state) (step call state)
-  balances = of_step state is call Balances (λ refusal. refl) balances-made (λ of rule may sound. balances-acted of rule may)
+  balances : Balances (step call state)
+  balances = of_step state is call (λ plan effect. Balances effect) balances-refused balances-made (λ of rule may sound. balances-acted of rule may)
 
 kept-from : (calls : List Call) → AllByRecursion ForReaders calls → (name : List ℕ) (state : State) → IsInOrder state → AllByRecursion (λ (named : Named). LetsIn named.object.kind) state
-    → permits_of (object_named name (state_from state calls)) +ℤ removed_from name state calls ≡ permits_of (object_named name state) +ℤ brought_from name state calls
+    → permits_of (object_named name (state_from state calls)) +ℤ pos (removed_from name state calls) ≡ permits_of (object_named name state) +ℤ pos (brought_from name state calls)
 kept-from [] for name state is lets = refl
 kept-from (call ∷ calls) for name state is lets =
-    let after = (step call state).state in
-    chained (permits_of (object_named name state)) (permits_of (object_named name after)) (permits_of (object_named name (state_from after calls)))
-    (brought_by name (plan call state)) (removed_by name (plan call state)) (brought_from name after calls) (removed_from name after calls)
+    let effect = step call state in
+    chained (permits_of (object_named name state)) (permits_of (object_named name effect.state)) (permits_of (object_named name (state_from effect.state calls)))
+    (brought_by name call effect.reply) (removed_by name state call effect.reply) (brought_from name effect.state calls) (removed_from name effect.state calls)
     (balances name state is lets call)
-    (kept-from calls for.1 name after (in_order-step state is call) (lets-step state is call for.0 lets))
+    (kept-from calls for.1 name effect.state (in_order-step state is call) (lets-step state is call for.0 lets))
 
 pub kept-after : (calls : List Call) → AllByRecursion ForReaders calls → (name : List ℕ)
-    → permits_of (object_named name (state_after calls)) +ℤ removed_from name [] calls ≡ brought_from name [] calls
+    → permits_of (object_named name (state_after calls)) +ℤ pos (removed_from name [] calls) ≡ pos (brought_from name [] calls)
 kept-after calls for name = kept-from calls for name [] (record { differ = tt; sound = tt }) tt ∙ from_nothing (brought_from name [] calls)
   where
-    from_nothing : (z : ℤ) → pos 0 +ℤ z ≡ z
-    from_nothing z = omega (arith, ints)
+    from_nothing : (n : ℕ) → pos 0 +ℤ pos n ≡ pos n
+    from_nothing n = omega (arith, ints)

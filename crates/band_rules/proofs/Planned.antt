@@ -1,21 +1,22 @@
 -- What a call plans it may do: the one walk over all calls.
-use Rattle.std.proofs.Common.{◌≡◌, ℕ, ◌<◌, ◌≤◌, Bool, true, false, not, cond, List, ◌++◌, Option, Some, None, IfSome, ◌&&◌, ◌⊎◌, inl, inr, Ok, Err, refl, sym, subst, arith}
+use Rattle.std.proofs.Common.{◌≡◌, ℕ, ◌<◌, ◌≤◌, pos, ◌+ℤ◌, ap, ◌∙◌, Bool, true, false, not, cond, List, ◌++◌, Option, Some, None, IfSome, ◌&&◌, ◌⊎◌, inl, inr, Ok, Err, refl, sym, subst, arith}
 use Rattle.std.specs.List.{AllByRecursion}
 use Rattle.std.specs.Option.{option_or}
 use Rattle.std.specs.Prelude.{IsSome}
 use Rattle.std.specs.Str.{bytes_eq}
 use Rattle.std.proofs.lemmas.Bool.{ltb-true, not-false}
+use Rattle.std.proofs.lemmas.Int.{ints}
 use Rattle.band_base.specs.declared.refusal.Refusal.{Refusal}
 use Rattle.band_base.specs.declared.refusal.Refusal.TheVariants as refusals
-use Rattle.band_balance.specs.Laws.{IsWithin, LetsIn}
-use Rattle.band_balance.specs.Line.{Entry, requests, entry_named, is_served, u64_max}
+use Rattle.band_balance.specs.Laws.{IsWithin, LetsIn, permits}
+use Rattle.band_balance.specs.Line.{Entry, requests, entry_named, drained, is_served, u64_max}
 use Rattle.band_balance.specs.Object.{Object, Kind, Semaphore, Mutex, ReaderWriter, Mode, Permit, Lock, Read, Write, tag, is_of, size_of, new_semaphore, new_mutex, new_reader_writer, would_overflow, would_owe_too_much}
-use Rattle.band_balance.specs.Rule.{Rule, Fits, Holds, IsAllowed, joiner}
+use Rattle.band_balance.specs.Rule.{Rule, Fits, Holds, IsAllowed, act, joiner, brought, removed, size_in}
 use Rattle.band_balance.specs.Rule.{is as is_tag}
 use Rattle.band_balance.specs.Rule as rules
 use Rattle.band_balance.proofs.Requests.{all-found, entry_named-append}
 use Rattle.band_balance.proofs.Shares.{both_of_each}
-use Rattle.band_balance.proofs.Rules.{NewObject, new_semaphore_is, new_mutex_is, new_reader_writer_is, within_new}
+use Rattle.band_balance.proofs.Rules.{bytes_told, NewObject, new_semaphore_is, new_mutex_is, new_reader_writer_is, within_new}
 use Rattle.band_script.specs.Call.{ForReaders}
 use Rattle.band_script.specs.Number.{is_number}
 use Rattle.band_script.specs.declared.call.Call.{Call}
@@ -24,8 +25,31 @@ use Rattle.band_rules.specs.Bounds.{HasNumbers}
 use Rattle.band_rules.specs.Order.{NamesDiffer, Sound}
 use Rattle.band_rules.specs.Plan.{Plan, Refuse, Make, Act, ◌>>=◌, object_of, object_for, asked_object, owner, same_mode, lender, if_live, if_unused, refuse_if, making, asking, trying, most_readers, plan}
 use Rattle.band_rules.specs.State.{State, Named, Tag, Standing, Absent, AnObject, ARequest, AHolding, standing}
-use Rattle.band_rules.specs.Woken.{gives_back}
+use Rattle.band_rules.specs.declared.reply.Reply.{Reply}
+use Rattle.band_rules.specs.declared.reply.Reply.TheVariants as replies
+use Rattle.band_rules.specs.Permits.{brought_by, removed_by, held_of}
+use Rattle.band_rules.specs.Step.{reply_of}
+use Rattle.band_rules.specs.Woken.{may_grant}
 use Rattle.band_rules.proofs.States.{IsAt, each_is_at, all_at, same_named, Found, found, IsAbsent, absent}
+
+-- what a call and its reply count for is what its plan brings and takes away
+pub record Counts (call : Call) (state : State) (reply : Reply) (to : List ℕ) (came gone : ℕ) : Type 0 where
+  pub brings : (name : List ℕ) → brought_by name call reply ≡ cond (bytes_eq name to) came 0
+  pub removes : (name : List ℕ) → removed_by name state call reply ≡ cond (bytes_eq name to) gone 0
+
+-- a call that counts for nothing, whatever its reply
+abbrev CountsNothing : Call → State → Type 0
+CountsNothing call state = (name : List ℕ) (reply : Reply) → (brought_by name call reply ≡ 0) × (removed_by name state call reply ≡ 0)
+
+nothing : (b : Bool) → ◌≡◌ {A = ℕ} 0 (cond b 0 0)
+nothing true = refl
+nothing false = refl
+
+counts_nothing : (call : Call) (state : State) (reply : Reply) (to : List ℕ) → CountsNothing call state → Counts call state reply to 0 0
+counts_nothing call state reply to none = record {
+  brings = λ name. (none name reply).0 ∙ nothing (bytes_eq name to);
+  removes = λ name. (none name reply).1 ∙ nothing (bytes_eq name to);
+}
 
 -- a new object under a name that is absent
 pub record MayMake (call : Call) (state : State) (made : List ℕ) (object : Object Tag) : Type 0 where
@@ -33,13 +57,17 @@ pub record MayMake (call : Call) (state : State) (made : List ℕ) (object : Obj
   pub new : NewObject bytes_eq object
   pub lets : ForReaders call → LetsIn object.kind
   pub within : HasNumbers call → IsWithin object
+  pub count : ℕ
+  pub made_with : permits object ≡ pos count
+  pub counts : Counts call state replies.Done made count 0
 
 -- an allowed rule to an object of the state, which puts no name into its line but one that is absent
 pub record MayAct (call : Call) (state : State) (of : Named) (rule : Rule (List ℕ)) : Type 0 where
   pub at : IsAt of state
   pub allowed : IsAllowed bytes_eq rule of.object
-  pub gives : rules.gives_back rule ≡ gives_back call
+  pub gives : rules.may_grant rule ≡ may_grant call
   pub joins : IfSome (joiner rule of.object) (λ name. AllByRecursion (IsAbsent name) state)
+  pub counts : Counts call state (reply_of (act bytes_eq rule of.object).answer) of.name (brought rule) (removed bytes_eq rule of.object)
 
 abbrev pub IsPlanned : Call → State → Plan → Type 0
 IsPlanned call state (Refuse refusal) = Unit {0}
@@ -153,30 +181,37 @@ module _ (state : State) (differ : NamesDiffer state) (sound : AllByRecursion So
   refusing : (refusal : Refusal) → Good (Refuse refusal)
   refusing refusal = tt
 
-  acts : {of : Named} (rule : Rule (List ℕ)) → Known of → IsAllowed bytes_eq rule of.object → rules.gives_back rule ≡ gives_back call
-      → IfSome (joiner rule of.object) (λ name. AllByRecursion (IsAbsent name) state) → Good (Act of rule)
-  acts rule known allowed gives joins = record { at = known.0; allowed = allowed; gives = gives; joins = joins }
+  acts : {of : Named} (rule : Rule (List ℕ)) → Known of → IsAllowed bytes_eq rule of.object → rules.may_grant rule ≡ may_grant call
+      → IfSome (joiner rule of.object) (λ name. AllByRecursion (IsAbsent name) state)
+      → Counts call state (reply_of (act bytes_eq rule of.object).answer) of.name (brought rule) (removed bytes_eq rule of.object) → Good (Act of rule)
+  acts rule known allowed gives joins counts = record { at = known.0; allowed = allowed; gives = gives; joins = joins; counts = counts }
 
-  good-making : (made : List ℕ) (object : Object Tag) → NewObject bytes_eq object → (ForReaders call → LetsIn object.kind) → (HasNumbers call → IsWithin object) → Good (making made object state)
-  good-making made object new lets within =
-      for_unused Good refusing (standing made state) _ (λ none. record { none = absent made state none; new = new; lets = lets; within = within })
+  -- nothing is counted of the call, and its reply
+  uncounted : (reply : Reply) (to : List ℕ) → CountsNothing call state → Counts call state reply to 0 0
+  uncounted reply to none = counts_nothing call state reply to none
 
-  module _ (mode : Mode) (size : Kind → ℕ) (fits : (kind : Kind) → is_of kind mode ≡ true → Fits kind mode (size kind)) (keeps : false ≡ gives_back call) where
+  good-making : (made : List ℕ) (object : Object Tag) → NewObject bytes_eq object → (ForReaders call → LetsIn object.kind) → (HasNumbers call → IsWithin object)
+      → (count : ℕ) → permits object ≡ pos count → Counts call state replies.Done made count 0 → Good (making made object state)
+  good-making made object new lets within count made_with counts =
+      for_unused Good refusing (standing made state) _
+      (λ none. record { none = absent made state none; new = new; lets = lets; within = within; count = count; made_with = made_with; counts = counts })
+
+  module _ (mode : Mode) (size : Kind → ℕ) (fits : (kind : Kind) → is_of kind mode ≡ true → Fits kind mode (size kind)) (keeps : false ≡ may_grant call) (none : CountsNothing call state) where
     good-asking : (made of : List ℕ) (waker : ℕ) → Good (asking mode size made of waker state)
     good-asking made of waker =
         for_object Good refusing mode (standing of state) _ (λ it is offers.
-        for_unused Good refusing (standing made state) _ (λ none.
-        let gone = absent made state none in
+        for_unused Good refusing (standing made state) _ (λ free.
+        let gone = absent made state free in
         let known = (stands of is).0 in
         acts (rules.Ask (tag mode made) (size it.object.kind) waker) known ((all_at (IsAbsent made) known.0 gone).fresh, fits it.object.kind offers) keeps
-        (joiner_is (is_served (size it.object.kind) it.object.line) (λ name. AllByRecursion (IsAbsent name) state) made gone)))
+        (joiner_is (is_served (size it.object.kind) it.object.line) (λ name. AllByRecursion (IsAbsent name) state) made gone) (uncounted _ it.name none)))
 
     good-trying : (made of : List ℕ) → Good (trying mode size made of state)
     good-trying made of =
         for_object Good refusing mode (standing of state) _ (λ it is offers.
-        for_unused Good refusing (standing made state) _ (λ none.
+        for_unused Good refusing (standing made state) _ (λ free.
         let known = (stands of is).0 in
-        acts (rules.Try (tag mode made) (size it.object.kind)) known ((all_at (IsAbsent made) known.0 (absent made state none)).fresh, fits it.object.kind offers) keeps tt))
+        acts (rules.Try (tag mode made) (size it.object.kind)) known ((all_at (IsAbsent made) known.0 (absent made state free)).fresh, fits it.object.kind offers) keeps tt (uncounted _ it.name none)))
 
 -- what an object is made with
 number_fits : (n : ℕ) → (is_number n && true) ≡ true → n ≤ u64_max
@@ -190,64 +225,79 @@ pub some_readers : (n : Option ℕ) (made : List ℕ) → ForReaders (calls.Rw m
 some_readers None made some = omega arith
 some_readers (Some n) made some = ltb-true 0 n some
 
+all_free : (n : ℕ) → pos n +ℤ pos 0 ≡ pos n
+all_free n = omega (arith, ints)
+
 any_size : (n : ℕ) (kind : Kind) → is_of kind Permit ≡ true → Fits kind Permit n
 any_size n kind offers = offers
 
 pub planned : (state : State) → NamesDiffer state → AllByRecursion Sound state → (call : Call) → IsPlanned call state (plan call state)
 planned state differ sound (calls.Sem made n) =
     good-making state differ sound _ made (new_semaphore n) (new_semaphore_is bytes_eq n) (λ for. tt) (λ small. within_new Semaphore n (number_fits n small))
+    n (all_free n) (record { brings = λ name. refl; removes = λ name. nothing (bytes_eq name made) })
 planned state differ sound (calls.Mutex made) =
     good-making state differ sound _ made new_mutex (new_mutex_is bytes_eq) (λ for. omega arith) (λ small. within_new Mutex 1 (omega arith))
+    1 (all_free 1) (record { brings = λ name. refl; removes = λ name. nothing (bytes_eq name made) })
 planned state differ sound (calls.Rw made n) =
     good-making state differ sound _ made (new_reader_writer (most_readers n)) (new_reader_writer_is bytes_eq (most_readers n)) (some_readers n made)
     (λ small. within_new (ReaderWriter (most_readers n)) (most_readers n) (most_fits n made small))
-planned state differ sound (calls.Ask made of n waker) = good-asking state differ sound _ Permit (λ kind. n) (any_size n) refl made of waker
-planned state differ sound (calls.Lock made of waker) = good-asking state differ sound _ Lock (λ kind. size_of kind Lock) (λ kind offers. (offers, refl)) refl made of waker
-planned state differ sound (calls.Read made of waker) = good-asking state differ sound _ Read (λ kind. size_of kind Read) (λ kind offers. (offers, refl)) refl made of waker
-planned state differ sound (calls.Write made of waker) = good-asking state differ sound _ Write (λ kind. size_of kind Write) (λ kind offers. (offers, refl)) refl made of waker
-planned state differ sound (calls.Try made of n) = good-trying state differ sound _ Permit (λ kind. n) (any_size n) refl made of
-planned state differ sound (calls.TryLock made of) = good-trying state differ sound _ Lock (λ kind. size_of kind Lock) (λ kind offers. (offers, refl)) refl made of
-planned state differ sound (calls.TryRead made of) = good-trying state differ sound _ Read (λ kind. size_of kind Read) (λ kind offers. (offers, refl)) refl made of
-planned state differ sound (calls.TryWrite made of) = good-trying state differ sound _ Write (λ kind. size_of kind Write) (λ kind offers. (offers, refl)) refl made of
+    (most_readers n) (all_free (most_readers n)) (record { brings = λ name. refl; removes = λ name. nothing (bytes_eq name made) })
+planned state differ sound (calls.Ask made of n waker) = good-asking state differ sound _ Permit (λ kind. n) (any_size n) refl (λ name reply. (refl, refl)) made of waker
+planned state differ sound (calls.Lock made of waker) = good-asking state differ sound _ Lock (λ kind. size_of kind Lock) (λ kind offers. (offers, refl)) refl (λ name reply. (refl, refl)) made of waker
+planned state differ sound (calls.Read made of waker) = good-asking state differ sound _ Read (λ kind. size_of kind Read) (λ kind offers. (offers, refl)) refl (λ name reply. (refl, refl)) made of waker
+planned state differ sound (calls.Write made of waker) = good-asking state differ sound _ Write (λ kind. size_of kind Write) (λ kind offers. (offers, refl)) refl (λ name reply. (refl, refl)) made of waker
+planned state differ sound (calls.Try made of n) = good-trying state differ sound _ Permit (λ kind. n) (any_size n) refl (λ name reply. (refl, refl)) made of
+planned state differ sound (calls.TryLock made of) = good-trying state differ sound _ Lock (λ kind. size_of kind Lock) (λ kind offers. (offers, refl)) refl (λ name reply. (refl, refl)) made of
+planned state differ sound (calls.TryRead made of) = good-trying state differ sound _ Read (λ kind. size_of kind Read) (λ kind offers. (offers, refl)) refl (λ name reply. (refl, refl)) made of
+planned state differ sound (calls.TryWrite made of) = good-trying state differ sound _ Write (λ kind. size_of kind Write) (λ kind offers. (offers, refl)) refl (λ name reply. (refl, refl)) made of
 planned state differ sound (calls.Poll name waker) =
     let call = calls.Poll name waker in
     for_asked (Good state differ sound call) (refusing state differ sound call) (standing name state) _ (λ of entry is.
     let it = stands state differ sound call name is in
-    acts state differ sound call (rules.Poll name waker) it.0 (found_some _ entry it.1) refl tt)
+    acts state differ sound call (rules.Poll name waker) it.0 (found_some _ entry it.1) refl tt (uncounted state differ sound call _ of.name (λ other reply. (refl, refl))))
 planned state differ sound (calls.Drop name) =
     let call = calls.Drop name in
     for_owner (Good state differ sound call) (refusing state differ sound call) (standing name state) _
     (λ of entry is.
     let it = stands state differ sound call name is in
-    acts state differ sound call (rules.Drop name) it.0 (some_among (is_tag bytes_eq name) (requests of.object.line) of.object.held (inl (found_some _ entry it.1))) refl tt)
+    acts state differ sound call (rules.Drop name) it.0 (some_among (is_tag bytes_eq name) (requests of.object.line) of.object.held (inl (found_some _ entry it.1))) refl tt (uncounted state differ sound call _ of.name (λ other reply. (refl, refl))))
     (λ of entry is.
     let it = stands state differ sound call name is in
-    acts state differ sound call (rules.Drop name) it.0 (some_among (is_tag bytes_eq name) (requests of.object.line) of.object.held (inr (found_some _ entry it.1))) refl tt)
+    acts state differ sound call (rules.Drop name) it.0 (some_among (is_tag bytes_eq name) (requests of.object.line) of.object.held (inr (found_some _ entry it.1))) refl tt (uncounted state differ sound call _ of.name (λ other reply. (refl, refl))))
 planned state differ sound (calls.Release of n) =
     let call = calls.Release of n in
     for_object (Good state differ sound call) (refusing state differ sound call) Permit (standing of state) _ (λ it is offers.
     for_test (Good state differ sound call) (refusing state differ sound call) (would_overflow n it.object) refusals.Overflow _ (λ fits.
-    acts state differ sound call (rules.Release n) (stands state differ sound call of is).0 (offers, fits) refl tt))
+    let same = bytes_told.equal of it.name (stands state differ sound call of is).1 in
+    acts state differ sound call (rules.Release n) (stands state differ sound call of is).0 (offers, fits) refl tt
+    (subst (λ to. Counts call state replies.Done to n 0) same (record { brings = λ name. refl; removes = λ name. nothing (bytes_eq name of) }))))
 planned state differ sound (calls.Reduce of n) =
     let call = calls.Reduce of n in
     for_object (Good state differ sound call) (refusing state differ sound call) Permit (standing of state) _ (λ it is offers.
     for_test (Good state differ sound call) (refusing state differ sound call) (would_owe_too_much n it.object) refusals.Debt _ (λ fits.
-    acts state differ sound call (rules.Reduce n) (stands state differ sound call of is).0 (offers, fits) refl tt))
+    let same = bytes_told.equal of it.name (stands state differ sound call of is).1 in
+    acts state differ sound call (rules.Reduce n) (stands state differ sound call of is).0 (offers, fits) refl tt
+    (subst (λ to. Counts call state replies.Done to 0 n) same (record { brings = λ name. nothing (bytes_eq name of); removes = λ name. refl }))))
 planned state differ sound (calls.Drain of n) =
     let call = calls.Drain of n in
     for_object (Good state differ sound call) (refusing state differ sound call) Permit (standing of state) _ (λ it is offers.
-    acts state differ sound call (rules.Drain n) (stands state differ sound call of is).0 offers refl tt)
+    let same = bytes_told.equal of it.name (stands state differ sound call of is).1 in
+    let count = drained n it.object.line in
+    acts state differ sound call (rules.Drain n) (stands state differ sound call of is).0 offers refl tt
+    (subst (λ to. Counts call state (replies.Drained count) to 0 count) same (record { brings = λ name. nothing (bytes_eq name of); removes = λ name. refl })))
 planned state differ sound (calls.Forget name) =
     let call = calls.Forget name in
     for_lender (Good state differ sound call) (refusing state differ sound call) Permit (standing name state) _ (λ of entry is same.
-    acts state differ sound call (rules.Forget name) (stands state differ sound call name is).0 (holds state differ sound call Permit name of entry is same) refl tt)
+    let it = stands state differ sound call name is in
+    acts state differ sound call (rules.Forget name) it.0 (holds state differ sound call Permit name of entry is same) refl tt
+    (record { brings = λ other. nothing (bytes_eq other of.name); removes = λ other. ap (held_of other) is ∙ ap (λ size. cond (bytes_eq other of.name) size 0) (sym (ap size_in it.1)) }))
 planned state differ sound (calls.Split name made n) =
     let call = calls.Split name made n in
     for_lender (Good state differ sound call) (refusing state differ sound call) Permit (standing name state) _ (λ of entry is same.
     for_unused (Good state differ sound call) (refusing state differ sound call) (standing made state) _ (λ none.
     let known = (stands state differ sound call name is).0 in
     acts state differ sound call (rules.Split name made n) known
-    (holds state differ sound call Permit name of entry is same, (all_at (IsAbsent made) known.0 (absent made state none)).fresh) refl tt))
+    (holds state differ sound call Permit name of entry is same, (all_at (IsAbsent made) known.0 (absent made state none)).fresh) refl tt (uncounted state differ sound call _ of.name (λ other reply. (refl, refl)))))
 planned state differ sound (calls.Merge kept spent) =
     let call = calls.Merge kept spent in
     let P = Good state differ sound call in
@@ -264,12 +314,12 @@ planned state differ sound (calls.Merge kept spent) =
       holds state differ sound call Permit kept one entry is same,
       subst (λ (of : Named). Holds bytes_eq Permit spent of.object) one_is (holds state differ sound call Permit spent other more also same_too),
       apart,
-    ) refl tt))))))
+    ) refl tt (uncounted state differ sound call _ one.name (λ other reply. (refl, refl)))))))))
 planned state differ sound (calls.Downgrade name) =
     let call = calls.Downgrade name in
     for_lender (Good state differ sound call) (refusing state differ sound call) Write (standing name state) _ (λ of entry is same.
-    acts state differ sound call (rules.Downgrade name) (stands state differ sound call name is).0 (holds state differ sound call Write name of entry is same) refl tt)
+    acts state differ sound call (rules.Downgrade name) (stands state differ sound call name is).0 (holds state differ sound call Write name of entry is same) refl tt (uncounted state differ sound call _ of.name (λ other reply. (refl, refl))))
 planned state differ sound (calls.Status name) =
     let call = calls.Status name in
     for_object_of (Good state differ sound call) (refusing state differ sound call) (standing name state) _ (λ it is.
-    acts state differ sound call rules.Status (stands state differ sound call name is).0 tt refl tt)
+    acts state differ sound call rules.Status (stands state differ sound call name is).0 tt refl tt (uncounted state differ sound call _ it.name (λ other reply. (refl, refl))))

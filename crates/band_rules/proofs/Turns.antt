@@ -15,7 +15,7 @@ use Rattle.band_balance.proofs.Requests.{all-weaker, all-not_named}
 use Rattle.band_balance.proofs.Rules.{bytes_told, queues-act}
 use Rattle.band_balance.proofs.Shares.{both_of_each}
 use Rattle.band_script.specs.declared.call.Call.{Call}
-use Rattle.band_rules.specs.Joined.{is_joiner, joins, joined_from, joined, StandInTurn, GrantedInTurn}
+use Rattle.band_rules.specs.Joined.{is_joiner, joins, joined_from, joined_at, StandInTurn, GrantedInTurn}
 use Rattle.band_rules.specs.Plan.{plan}
 use Rattle.band_rules.specs.Script.{state_from, state_after}
 use Rattle.band_rules.specs.State.{State, Named, Tag}
@@ -110,7 +110,7 @@ in_turn-from [] number now state is each = (now, each)
 in_turn-from (call ∷ calls) number now state is each =
     in_turn-from calls (λ name. cond (joins name (plan call state)) now (number name)) (now + 1) (step call state).state (in_order-step state is call) (in_turn-step number now state is call each)
 
-in_turn-after : (calls : List Call) → (later : ℕ) × AllInTurn (λ name. joined name calls) later (state_after calls)
+in_turn-after : (calls : List Call) → (later : ℕ) × AllInTurn (λ name. joined_at name calls) later (state_after calls)
 in_turn-after calls = in_turn-from calls (λ name. 0) 1 [] (record { differ = tt; sound = tt }) tt
 
 pub stand-after : (calls : List Call) → AllByRecursion (λ (named : Named). StandInTurn calls named.object.line) (state_after calls)

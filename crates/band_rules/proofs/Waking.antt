@@ -16,7 +16,7 @@ use Rattle.band_rules.specs.Plan.{Plan, Refuse, Make, Act, plan}
 use Rattle.band_rules.specs.Script.{state_after}
 use Rattle.band_rules.specs.State.{State, Named, Tag}
 use Rattle.band_rules.specs.Step.{reply_of, perform, with_object, step}
-use Rattle.band_rules.specs.Woken.{granted_now, WakesTheGranted, EachGrantsAFront, RefusesWhole, gives_back}
+use Rattle.band_rules.specs.Woken.{granted_now, WakesTheGranted, EachGrantsAFront, RefusesWhole, may_grant}
 use Rattle.band_rules.specs.Order.{Sound, IsInOrder}
 use Rattle.band_rules.proofs.Runs.{of_step, in_order-after}
 use Rattle.band_rules.proofs.States.{IsAt, here, later, with_object_here, with_object_later}
@@ -69,12 +69,12 @@ module _ (state : State) (is : IsInOrder state) (call : Call) where
       woken-act bytes_eq bytes_told rule of.object may.allowed sound
       ∙ sym (ap wakers (granted_now-with_object (act bytes_eq rule of.object).object may.at is.sound)))
 
-  nobody : gives_back call ≡ false → (step call state).woken ≡ []
+  nobody : may_grant call ≡ false → (step call state).woken ≡ []
   nobody none =
       of_step state is call (λ plan effect. effect.woken ≡ []) (λ refusal. refl) (λ made object may. refl)
       (λ of rule may sound. nobody-act bytes_eq bytes_told rule of.object may.allowed sound (may.gives ∙ none))
 
-  front : gives_back call ≡ true → EachGrantsAFront state (step call state).state
+  front : may_grant call ≡ true → EachGrantsAFront state (step call state).state
   front gives =
       of_step state is call (λ plan effect. EachGrantsAFront state effect.state)
       (λ refusal. fronts-same state is.sound)
@@ -85,10 +85,10 @@ module _ (state : State) (is : IsInOrder state) (call : Call) where
 pub wakes-after : (calls : List Call) (call : Call) → WakesTheGranted (state_after calls) (step call (state_after calls))
 wakes-after calls call = wakes (state_after calls) (in_order-after calls) call
 
-pub nobody-after : (calls : List Call) (call : Call) → gives_back call ≡ false → (step call (state_after calls)).woken ≡ []
+pub nobody-after : (calls : List Call) (call : Call) → may_grant call ≡ false → (step call (state_after calls)).woken ≡ []
 nobody-after calls call = nobody (state_after calls) (in_order-after calls) call
 
-pub front-after : (calls : List Call) (call : Call) → gives_back call ≡ true → EachGrantsAFront (state_after calls) (step call (state_after calls)).state
+pub front-after : (calls : List Call) (call : Call) → may_grant call ≡ true → EachGrantsAFront (state_after calls) (step call (state_after calls)).state
 front-after calls call = front (state_after calls) (in_order-after calls) call
 
 -- no rule of an object refuses

@@ -4,7 +4,7 @@ pub mod Plan
 pub mod Step
 pub mod Text
 pub mod Script
-pub mod Kept
+pub mod Permits
 pub mod Woken
 pub mod Joined
 pub mod Bounds

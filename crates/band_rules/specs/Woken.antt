@@ -16,7 +16,7 @@ granted_now [] after = []
 granted_now (first ∷ rest) [] = []
 granted_now (first ∷ rest) (now ∷ later) = granted_between bytes_eq first.object.line now.object.line ++ granted_now rest later
 
--- those are woken, by the wakers that they left last
+-- those are woken, by the wakers that their lines keep for them
 abbrev pub WakesTheGranted : State → Effect → Type 0
 WakesTheGranted state effect = effect.woken ≡ map (λ w. w.waker) (granted_now state effect.state)
 
@@ -31,8 +31,8 @@ abbrev pub RefusesWhole : State → Effect → Type 0
 RefusesWhole state effect = (refusal : Refusal) → effect.reply ≡ replies.Refused refusal → (effect.state ≡ state) × (effect.woken ≡ [])
 
 -- the calls that may give permits back to a line, or take a request out of it
-abbrev pub gives_back : Call → Bool
-gives_back (calls.Release of n) = true
-gives_back (calls.Drop name) = true
-gives_back (calls.Downgrade name) = true
-gives_back call = false
+abbrev pub may_grant : Call → Bool
+may_grant (calls.Release of n) = true
+may_grant (calls.Drop name) = true
+may_grant (calls.Downgrade name) = true
+may_grant call = false

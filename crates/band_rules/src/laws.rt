@@ -1,23 +1,23 @@
 //! Laws of scripts.
 ghost use Rattle.std.specs.List.{AllByRecursion};
-ghost use Rattle.std.specs.Prelude.{◌≡◌, List, [], ℕ, true, false, ◌+ℤ◌};
+ghost use Rattle.std.specs.Prelude.{◌≡◌, List, [], ℕ, true, false, pos, ◌+ℤ◌};
 ghost use Rattle.band_balance.specs.Laws.{IsExclusive, IsWithin};
 ghost use Rattle.band_balance.specs.Settled.{HeadWaits};
 ghost use Rattle.band_script.specs.Call.{ForReaders};
 ghost use Rattle.band_script.specs.declared.call.Call.{Call as TheCall};
 ghost use Rattle.band_rules.specs.Bounds.{HasNumbers};
 ghost use Rattle.band_rules.specs.Joined.{GrantedInTurn, StandInTurn};
-ghost use Rattle.band_rules.specs.Kept.{brought_from, object_named, permits_of, removed_from};
+ghost use Rattle.band_rules.specs.Permits.{brought_from, object_named, permits_of, removed_from};
 ghost use Rattle.band_rules.specs.Script.{calls_of, state_after};
 ghost use Rattle.band_rules.specs.State.{Named};
 ghost use Rattle.band_rules.specs.Step.{step};
-ghost use Rattle.band_rules.specs.Woken.{EachGrantsAFront, RefusesWhole, WakesTheGranted, gives_back};
+ghost use Rattle.band_rules.specs.Woken.{EachGrantsAFront, RefusesWhole, WakesTheGranted, may_grant};
 
 /// After any calls, what an object was made with and what was released to it is what is free, granted and held of it, and
 /// what was reduced, drained and forgotten.
 pub fn permits_are_kept()
     ensures { (calls : List TheCall) → AllByRecursion ForReaders calls → (name : List ℕ)
-        → permits_of (object_named name (state_after calls)) +ℤ removed_from name [] calls ≡ brought_from name [] calls }
+        → permits_of (object_named name (state_after calls)) +ℤ pos (removed_from name [] calls) ≡ pos (brought_from name [] calls) }
 {}
 
 /// The calls of a script make locks for one reader at least.
@@ -59,21 +59,21 @@ pub fn lines_stand_in_turn()
 {}
 
 /// A call after any calls wakes those that waited before it and are granted after it, in the order of their line, each once and by
-/// the waker that it left last.
+/// the waker that the line keeps for it.
 pub fn wakes_name_the_granted()
     ensures { (calls : List TheCall) → (call : TheCall) → WakesTheGranted (state_after calls) (step call (state_after calls)) }
 {}
 
 /// A call after any calls wakes nobody, unless it is a release, a drop or a downgrade.
 pub fn only_giving_back_wakes()
-    ensures { (calls : List TheCall) → (call : TheCall) → gives_back call ≡ false → (step call (state_after calls)).woken ≡ [] }
+    ensures { (calls : List TheCall) → (call : TheCall) → may_grant call ≡ false → (step call (state_after calls)).woken ≡ [] }
 {}
 
 /// Where a call after any calls is a release, a drop or a downgrade, at most one leaves a line, and those that it grants stood in
 /// front of those that wait still and follow those granted before. It grants nobody where permits are owed still: what comes back
 /// pays them first.
 pub fn a_front_is_granted()
-    ensures { (calls : List TheCall) → (call : TheCall) → gives_back call ≡ true
+    ensures { (calls : List TheCall) → (call : TheCall) → may_grant call ≡ true
         → EachGrantsAFront (state_after calls) (step call (state_after calls)).state }
 {}
 

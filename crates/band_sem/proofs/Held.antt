@@ -7,7 +7,7 @@ use Rattle.band_base.specs.declared.poll.PollError.TheVariants as errors
 use Rattle.band_base.specs.declared.waker.Waker.{Waker}
 use Rattle.band_sem.specs.Permit.{Permit}
 use Rattle.band_sem.specs.Request.{Request, Stage, NotPolled, Joined, Finished}
-use Rattle.band_sem.specs.Semaphore.{SemaphoreState, Polls, PollsAt, TakesWake, cancelled}
+use Rattle.band_sem.specs.Semaphore.{SemaphoreState, IsLike, Polls, PollsAt, TakesWake, cancelled}
 
 -- it is the same semaphore, and no fewer are held
 pub record KeepsHeld (old new : SemaphoreState) : Type 0 where
@@ -32,10 +32,10 @@ module _ (old new : SemaphoreState) where
   KeepsHeld-wakes None (none, same) = keeps _ same refl none_fewer
   KeepsHeld-wakes (Some waker) (first, takes) = keeps _ takes refl none_fewer
 
-  pub KeepsHeld-cancels : (stage : Stage) → new ≡ cancelled stage old → KeepsHeld old new
-  KeepsHeld-cancels NotPolled same = keeps _ same refl none_fewer
-  KeepsHeld-cancels (Joined slot) ends = keeps _ ends refl none_fewer
-  KeepsHeld-cancels Finished same = keeps _ same refl none_fewer
+  pub KeepsHeld-cancels : (stage : Stage) → IsLike (cancelled stage old) new → KeepsHeld old new
+  KeepsHeld-cancels NotPolled same = record { number = same.number; held = rw same.held none_fewer }
+  KeepsHeld-cancels (Joined slot) ends = record { number = ends.number; held = rw ends.held none_fewer }
+  KeepsHeld-cancels Finished same = record { number = same.number; held = rw same.held none_fewer }
 
   pub KeepsHeld-polls : (request request' : Request) (waker : ℕ) (result : Result (Poll Permit) PollError) → Polls request waker old result request' new → KeepsHeld old new
   KeepsHeld-polls request request' waker result polled = at request.stage result polled

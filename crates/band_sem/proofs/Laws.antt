@@ -2,9 +2,12 @@
 use Rattle.std.proofs.Common.{◌≡◌, refl, ℕ, ◌+◌, ◌≤◌, Bool, true, false, cond, List, [], ◌∷◌, ◌++◌, map, pos, ◌+ℤ◌, Option, Some, None, Result, Ok, Err, inl, inr, nat_eq, arith, ap, sym, ◌∙◌, append-nil}
 use Rattle.std.specs.Bool.{OnTrue}
 use Rattle.std.specs.List.{IsDistinct}
-use Rattle.band_balance.specs.Line.{Entry, Waiting, Line, entry_of, requests, total, take_permits, give_back, join, entry_named, without, without_waiting, poll_granted, poll_waiting, settle, withdraw, cancel}
-use Rattle.band_balance.proofs.Settle.{passed, passed-left, le_false_from_lt, granted-settle, waiting-settle, wakes-settle, free-total-cancel}
-use Rattle.band_balance.proofs.Requests.{count_named, count_named-append, entry_named-none, requests-give_back, requests-join, requests-poll_granted, requests-poll_waiting, requests-cancel}
+use Rattle.std.specs.List.Sorted.{IsPermutation}
+use Rattle.std.proofs.lemmas.List.{map-append}
+use Rattle.std.proofs.lemmas.List.Sorted.{IsPermutation-refl}
+use Rattle.band_balance.specs.Line.{Entry, Waiting, Line, entry_of, requests, total, add_permits, take_permits, give_back, join, entry_named, without, without_waiting, poll_granted, poll_waiting, settle, withdraw, cancel}
+use Rattle.band_balance.proofs.Settle.{passed, left, passed-left, le_false_from_lt, granted-settle, waiting-settle, wakes-settle, free-total-cancel}
+use Rattle.band_balance.proofs.Requests.{count_named, count_named-append, entry_named-none, entries-leave_waker, entries-without_waiting, requests-cancel}
 use Rattle.band_balance.proofs.Distinct.{once}
 use Rattle.band_base.specs.declared.poll.Poll.{Poll}
 use Rattle.band_base.specs.declared.poll.Poll.TheVariants.{Ready, Pending}
@@ -15,6 +18,9 @@ use Rattle.band_sem.specs.Permit.{Permit}
 use Rattle.band_sem.specs.Request.{Request}
 use Rattle.band_balance.specs.Settled.{HeadWaits}
 use Rattle.band_sem.specs.Semaphore.{SemaphoreState, FirstPoll, LaterPoll, is_slot}
+
+IsPermutation-equal : (xs ys : List (Entry ℕ)) → ys ≡ xs → IsPermutation xs ys
+IsPermutation-equal xs ys same = rw same (IsPermutation-refl xs)
 
 IsSublist-more : (e : Entry ℕ) (xs ys : List (Entry ℕ)) → IsSublist xs ys → IsSublist xs (e ∷ ys)
 IsSublist-more e [] ys h = tt
@@ -32,24 +38,77 @@ IsSublist-without is (x ∷ xs) = go (is x.name) (IsSublist-without is xs)
     go true h = IsSublist-more x xs xs (IsSublist-itself xs)
     go false h = inl (refl, h)
 
--- nobody joins
-stays : (kept : List (Entry ℕ)) (old new : Line ℕ) → IsSublist kept (requests old) → requests new ≡ kept → KeepsOrder old new
-stays kept old new h same = (kept, ([], h, tt, same ∙ sym (append-nil kept)))
+-- who is in the line stays there, but for its wakers
+stays : (old new : Line ℕ) → map entry_of new.waiting ≡ map entry_of old.waiting → new.granted ≡ old.granted → KeepsOrder old new
+stays old new waiting granted = record {
+  granted_now = [];
+  stayed = map entry_of old.waiting;
+  waited = IsSublist-itself (map entry_of old.waiting);
+  joined = [];
+  are_new = tt;
+  waiting = waiting ∙ sym (append-nil (map entry_of old.waiting));
+  kept = old.granted;
+  granted_before = IsSublist-itself old.granted;
+  granted = IsPermutation-equal (old.granted ++ []) new.granted (granted ∙ sym (append-nil old.granted));
+}
 
-pub KeepsOrder-same : (old new : Line ℕ) → requests new ≡ requests old → KeepsOrder old new
-KeepsOrder-same old new same = stays (requests old) old new (IsSublist-itself (requests old)) same
-
-KeepsOrder-without : (is : ℕ → Bool) (old new : Line ℕ) → requests new ≡ without is (requests old) → KeepsOrder old new
-KeepsOrder-without is old new same = stays (without is (requests old)) old new (IsSublist-without is (requests old)) same
+pub KeepsOrder-same : (old new : Line ℕ) → new ≡ old → KeepsOrder old new
+KeepsOrder-same old new same = stays old new (ap (λ (l : Line ℕ). map entry_of l.waiting) same) (ap (λ (l : Line ℕ). l.granted) same)
 
 KeepsOrder-join : (slot size waker : ℕ) (old : Line ℕ) → entry_named (is_slot slot) (requests old) ≡ None → KeepsOrder old (join slot size waker old)
-KeepsOrder-join slot size waker old nobody = (requests old, (record { name = slot; size = size } ∷ [], IsSublist-itself (requests old), (nobody, tt), requests-join slot size waker old))
+KeepsOrder-join slot size waker old nobody = record {
+  granted_now = [];
+  stayed = map entry_of old.waiting;
+  waited = IsSublist-itself (map entry_of old.waiting);
+  joined = record { name = slot; size = size } ∷ [];
+  are_new = (nobody, tt);
+  waiting = map-append entry_of old.waiting (record { name = slot; size = size; waker = waker } ∷ []);
+  kept = old.granted;
+  granted_before = IsSublist-itself old.granted;
+  granted = IsPermutation-equal (old.granted ++ []) old.granted (sym (append-nil old.granted));
+}
+
+-- one that was granted leaves
+KeepsOrder-poll_granted : (slot : ℕ) (old : Line ℕ) → KeepsOrder old (poll_granted (is_slot slot) old)
+KeepsOrder-poll_granted slot old = record {
+  granted_now = [];
+  stayed = map entry_of old.waiting;
+  waited = IsSublist-itself (map entry_of old.waiting);
+  joined = [];
+  are_new = tt;
+  waiting = sym (append-nil (map entry_of old.waiting));
+  kept = without (is_slot slot) old.granted;
+  granted_before = IsSublist-without (is_slot slot) old.granted;
+  granted = IsPermutation-equal (without (is_slot slot) old.granted ++ []) _ (sym (append-nil (without (is_slot slot) old.granted)));
+}
+
+-- a line settles, of which nobody left or one did
+settles : (old base : Line ℕ) → IsSublist (map entry_of base.waiting) (map entry_of old.waiting) → IsSublist base.granted old.granted → KeepsOrder old (settle base)
+settles old base waiting granted =
+    let front = passed base.free base.waiting in
+    let rest = left base.free base.waiting in
+    record {
+      granted_now = map entry_of front;
+      stayed = map entry_of rest;
+      waited = rw (← map-append entry_of front rest, passed-left base.free base.waiting) waiting;
+      joined = [];
+      are_new = tt;
+      waiting = ap (map entry_of) (waiting-settle base) ∙ sym (append-nil (map entry_of rest));
+      kept = base.granted;
+      granted_before = granted;
+      granted = IsPermutation-equal (base.granted ++ map entry_of front) (settle base).granted (granted-settle base);
+    }
 
 pub KeepsOrder-give_back : (n : ℕ) (old : Line ℕ) → KeepsOrder old (give_back n old)
-KeepsOrder-give_back n old = KeepsOrder-same old (give_back n old) (requests-give_back n old)
+KeepsOrder-give_back n old = settles old (add_permits n old) (IsSublist-itself (map entry_of old.waiting)) (IsSublist-itself old.granted)
 
 KeepsOrder-cancel : (slot : ℕ) (old : Line ℕ) → KeepsOrder old (cancel (is_slot slot) old)
-KeepsOrder-cancel slot old = KeepsOrder-without (is_slot slot) old (cancel (is_slot slot) old) (requests-cancel (is_slot slot) old)
+KeepsOrder-cancel slot old = at (entry_named (is_slot slot) old.granted)
+  where
+    at : (found : Option (Entry ℕ)) → KeepsOrder old (settle (withdraw found (is_slot slot) old))
+    at (Some entry) = settles old (withdraw (Some entry) (is_slot slot) old) (IsSublist-itself (map entry_of old.waiting)) (IsSublist-without (is_slot slot) old.granted)
+    at None = settles old (withdraw None (is_slot slot) old)
+        (rw (entries-without_waiting (is_slot slot) old.waiting) (IsSublist-without (is_slot slot) (map entry_of old.waiting))) (IsSublist-itself old.granted)
 
 -- the same at states that are equal to these
 pub KeepsOrder-gives_back : (n : ℕ) (before old new : Line ℕ) → before ≡ old → new ≡ give_back n before → KeepsOrder old new
@@ -60,7 +119,7 @@ KeepsOrder-cancels slot before old new same cancels = rw (cancels, same) (KeepsO
 
 pub KeepsOrder-released : (released : Bool) (n : ℕ) (before old new : SemaphoreState) → before ≡ old → OnTrue released (new ≡ record before { line = give_back n before.line }) → (released ≡ false → new ≡ before) → KeepsOrder old.line new.line
 KeepsOrder-released true n before old new same done undone = KeepsOrder-gives_back n before.line old.line new.line (ap (λ s. s.line) same) (ap (λ s. s.line) done)
-KeepsOrder-released false n before old new same done undone = KeepsOrder-same old.line new.line (ap (λ s. requests s.line) (undone refl ∙ same))
+KeepsOrder-released false n before old new same done undone = KeepsOrder-same old.line new.line (ap (λ s. s.line) (undone refl ∙ same))
 
 -- the order is kept from the old state to any that is the same as the new one
 module _ (old new : SemaphoreState) where
@@ -71,14 +130,14 @@ module _ (old new : SemaphoreState) where
   unchanged same = ordered_as old same (KeepsOrder-same old.line old.line refl)
 
   pub KeepsOrder-first_poll : (request request' : Request) (waker : ℕ) (result : Result (Poll Permit) PollError) → FirstPoll request waker old result request' new → KeepsOrder old.line new.line
-  KeepsOrder-first_poll request request' waker (Ok (Ready permit)) h = ordered_as _ h.2 (KeepsOrder-same old.line (take_permits request.size old.line) refl)
+  KeepsOrder-first_poll request request' waker (Ok (Ready permit)) h = ordered_as _ h.2 (stays old.line (take_permits request.size old.line) refl refl)
   KeepsOrder-first_poll request request' waker (Ok Pending) h = ordered_as _ h.1.2 (KeepsOrder-join h.1.0 request.size waker old.line h.1.1)
   KeepsOrder-first_poll request request' waker (Err errors.NoMemory) h = unchanged h.1
   KeepsOrder-first_poll request request' waker (Err error) h = absurd h
 
   pub KeepsOrder-later_poll : (slot : ℕ) (request request' : Request) (waker : ℕ) (result : Result (Poll Permit) PollError) → LaterPoll slot request waker old result request' new → KeepsOrder old.line new.line
-  KeepsOrder-later_poll slot request request' waker (Ok (Ready permit)) h = ordered_as _ h.2 (KeepsOrder-without (is_slot slot) old.line (poll_granted (is_slot slot) old.line) (requests-poll_granted (is_slot slot) old.line _ h.0))
-  KeepsOrder-later_poll slot request request' waker (Ok Pending) h = ordered_as _ h.1 (KeepsOrder-same old.line (poll_waiting (is_slot slot) waker old.line) (requests-poll_waiting (is_slot slot) waker old.line))
+  KeepsOrder-later_poll slot request request' waker (Ok (Ready permit)) h = ordered_as _ h.2 (KeepsOrder-poll_granted slot old.line)
+  KeepsOrder-later_poll slot request request' waker (Ok Pending) h = ordered_as _ h.1 (stays old.line (poll_waiting (is_slot slot) waker old.line) (entries-leave_waker (is_slot slot) waker old.line.waiting) refl)
   KeepsOrder-later_poll slot request request' waker (Err error) h = absurd h
 
 -- nobody leaves where nobody is meant
@@ -131,7 +190,7 @@ module _ (slot : ℕ) (line : Line ℕ) (distinct : IsDistinct nat_eq (map (λ e
       let base = withdraw (Some e) (is_slot slot) line in
       record {
         waiting = without_waiting-nobody (is_slot slot) line.waiting (doesnt_wait e h) ∙ sym (passed-left base.free line.waiting) ∙ ap (λ ws. passed base.free line.waiting ++ ws) (sym (waiting-settle base));
-        granted = granted-settle base;
+        granted = IsPermutation-equal _ (settle base).granted (granted-settle base);
         wakes = wakes-settle base;
         sum = sum;
         none_behind = λ none b. absurd (some_is_none (entry_named (is_slot slot) line.granted) e none h);
@@ -143,7 +202,8 @@ module _ (slot : ℕ) (line : Line ℕ) (distinct : IsDistinct nat_eq (map (λ e
       let base = withdraw None (is_slot slot) line in
       record {
         waiting = sym (passed-left base.free base.waiting) ∙ ap (λ ws. passed base.free base.waiting ++ ws) (sym (waiting-settle base));
-        granted = granted-settle base ∙ ap (λ es. es ++ map entry_of (passed base.free base.waiting)) (sym (without-nobody (is_slot slot) line.granted h));
+        granted = IsPermutation-equal _ (settle base).granted
+            (granted-settle base ∙ ap (λ es. es ++ map entry_of (passed base.free base.waiting)) (sym (without-nobody (is_slot slot) line.granted h)));
         wakes = wakes-settle base;
         sum = sum;
         none_behind = λ none b. behind line.waiting head b;
@@ -153,7 +213,8 @@ module _ (slot : ℕ) (line : Line ℕ) (distinct : IsDistinct nat_eq (map (λ e
   MakesRoomFor-cancel = (room (entry_named (is_slot slot) line.granted), makes_room (entry_named (is_slot slot) line.granted) refl (free-total-cancel (is_slot slot) line))
 
 LeavesOthers-cancel : (slot : ℕ) (old : SemaphoreState) → IsDistinct nat_eq (map (λ e. e.name) (requests old.line)) → HeadWaits old.line.free old.line.waiting → LeavesOthers slot old (record old { line = cancel (is_slot slot) old.line })
-LeavesOthers-cancel slot old distinct head = (refl, refl, requests-cancel (is_slot slot) old.line, MakesRoomFor-cancel slot old.line distinct head)
+LeavesOthers-cancel slot old distinct head =
+    (refl, refl, IsPermutation-equal _ _ (requests-cancel (is_slot slot) old.line), MakesRoomFor-cancel slot old.line distinct head)
 
 pub LeavesOthers-cancels : (slot : ℕ) (before old new : SemaphoreState) → before ≡ old → new ≡ record before { line = cancel (is_slot slot) before.line } →
     IsDistinct nat_eq (map (λ e. e.name) (requests before.line)) → HeadWaits before.line.free before.line.waiting → LeavesOthers slot old new

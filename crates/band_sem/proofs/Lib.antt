@@ -1,4 +1,5 @@
 pub mod Held
+pub mod Like
 pub mod Own
 pub mod Whole
 mod Lawful

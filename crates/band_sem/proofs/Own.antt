@@ -9,9 +9,10 @@ use Rattle.band_base.specs.declared.poll.Poll.TheVariants.{Ready, Pending}
 use Rattle.band_base.specs.declared.poll.PollError.{PollError}
 use Rattle.band_base.specs.declared.poll.PollError.TheVariants as errors
 use Rattle.band_base.specs.declared.waker.Waker.{Waker}
+use Rattle.band_sem.proofs.Like.{IsOwn-like}
 use Rattle.band_sem.specs.Permit.{Permit}
 use Rattle.band_sem.specs.Request.{Request, Stage, NotPolled, Joined, Finished}
-use Rattle.band_sem.specs.Semaphore.{SemaphoreState, IsOwn, SlotsDiffer, Polls, PollsAt, TakesWake, taken, given_back, released, reduced, forgotten, cancelled, is_slot}
+use Rattle.band_sem.specs.Semaphore.{SemaphoreState, IsLike, IsLawful, IsOwn, SlotsDiffer, Polls, PollsAt, TakesWake, taken, given_back, released, reduced, forgotten, cancelled, is_slot}
 
 same_slot : (slot : ℕ) → nat_eq slot slot ≡ true
 same_slot slot = grind (arith, nat_tests)
@@ -67,20 +68,22 @@ module _ (mine : Request) (old new : SemaphoreState) (own : IsOwn mine.stage min
   pub IsOwn-forgotten : (n : ℕ) → new ≡ forgotten n old → IsOwn mine.stage mine.size new.line
   IsOwn-forgotten n is = rw is own
 
-  pub IsOwn-given_back : (n : ℕ) → new ≡ given_back n old → IsOwn mine.stage mine.size new.line
-  IsOwn-given_back n is = rw is (IsOwn-same mine.stage mine.size old.line _ (requests-give_back n old.line) own)
+  pub IsOwn-given_back : (n : ℕ) → IsLike (given_back n old) new → IsLawful new → IsOwn mine.stage mine.size new.line
+  IsOwn-given_back n is lawful =
+      IsOwn-like mine.stage mine.size _ new is lawful (IsOwn-same mine.stage mine.size old.line _ (requests-give_back n old.line) own)
 
-  pub IsOwn-released : (n : ℕ) → new ≡ released n old → IsOwn mine.stage mine.size new.line
-  IsOwn-released n is = rw is (IsOwn-same mine.stage mine.size old.line _ (requests-give_back n old.line) own)
+  pub IsOwn-released : (n : ℕ) → IsLike (released n old) new → IsLawful new → IsOwn mine.stage mine.size new.line
+  IsOwn-released n is lawful =
+      IsOwn-like mine.stage mine.size _ new is lawful (IsOwn-same mine.stage mine.size old.line _ (requests-give_back n old.line) own)
 
   pub IsOwn-wakes : (result : Option Waker) → TakesWake old result new → IsOwn mine.stage mine.size new.line
   IsOwn-wakes None (none, same) = rw same own
   IsOwn-wakes (Some waker) (first, takes) = rw takes (IsOwn-same mine.stage mine.size old.line _ refl own)
 
-  pub IsOwn-cancels : (other : Stage) → SlotsDiffer mine.stage other → new ≡ cancelled other old → IsOwn mine.stage mine.size new.line
-  IsOwn-cancels NotPolled apart same = rw same own
-  IsOwn-cancels Finished apart same = rw same own
-  IsOwn-cancels (Joined slot) apart ends = rw ends (at mine.stage own apart)
+  pub IsOwn-cancels : (other : Stage) → SlotsDiffer mine.stage other → IsLike (cancelled other old) new → IsLawful new → IsOwn mine.stage mine.size new.line
+  IsOwn-cancels NotPolled apart same lawful = IsOwn-like mine.stage mine.size old new same lawful own
+  IsOwn-cancels Finished apart same lawful = IsOwn-like mine.stage mine.size old new same lawful own
+  IsOwn-cancels (Joined slot) apart ends lawful = IsOwn-like mine.stage mine.size _ new ends lawful (at mine.stage own apart)
     where
       at : (stage : Stage) → IsOwn stage mine.size old.line → SlotsDiffer stage (Joined slot) → IsOwn stage mine.size (cancelled (Joined slot) old).line
       at NotPolled own apart = tt

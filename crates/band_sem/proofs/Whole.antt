@@ -19,7 +19,7 @@ use Rattle.band_sem.specs.Permit.{Permit}
 use Rattle.band_sem.specs.Request.{Request}
 use Rattle.band_sem.specs.Whole.{IsWhole, StaysWhole}
 
-abbrev Asks : List (Entry ℕ) → Type 0
+abbrev pub Asks : List (Entry ℕ) → Type 0
 Asks entries = AllByRecursion (λ (e : Entry ℕ). 0 < e.size) entries
 
 -- where none of those that ask for something is left over, there is none
@@ -49,7 +49,7 @@ only is (e ∷ es) found there alone = go (is e.name) there alone
     go false there alone = cc
 
 -- what the rest of the facts rest on
-is_whole : (n : ℕ) (state : SemaphoreState) → pos 0 ≤ℤ state.line.free → state.line.free +ℤ pos (total state.line.granted + state.held) ≡ pos n → Asks (requests state.line) → IsWhole n state
+pub is_whole : (n : ℕ) (state : SemaphoreState) → pos 0 ≤ℤ state.line.free → state.line.free +ℤ pos (total state.line.granted + state.held) ≡ pos n → Asks (requests state.line) → IsWhole n state
 is_whole n state none_owed adds_up asks = record {
   none_owed = none_owed;
   adds_up = adds_up;

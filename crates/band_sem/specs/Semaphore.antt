@@ -1,7 +1,7 @@
 -- What a contract sees of a semaphore, and what each call makes of it.
 use Rattle.std.specs.Prelude.{◌≡◌, ℕ, ◌+◌, ◌-◌, ◌<◌, ◌≤◌, Bool, false, ◌==◌, ◌∷◌, [], drop, map, pos, neg_ℤ, ◌+ℤ◌, ◌≤ℤ◌, IsTrue, Option, Some, None, Result, Ok, Err, nat_eq}
 use Rattle.std.specs.List.{IsDistinct, AllByRecursion}
-use Rattle.band_balance.specs.Line.{Line, open_line, requests, total, is_served, take_permits, give_back, join, entry_named, poll_granted, poll_waiting, cancel, u64_max}
+use Rattle.band_balance.specs.Line.{Line, AreAlike, open_line, requests, total, is_served, take_permits, give_back, join, entry_named, poll_granted, poll_waiting, cancel, u64_max}
 use Rattle.band_balance.specs.Settled.{HeadWaits}
 use Rattle.band_base.specs.declared.poll.Poll.{Poll}
 use Rattle.band_base.specs.declared.poll.Poll.TheVariants.{Ready, Pending}
@@ -16,6 +16,12 @@ pub record SemaphoreState : Type 0 where
   pub number : ℕ
   pub line : Line ℕ
   pub held : ℕ
+
+-- Two are alike where they differ at most in the order of those granted, which no call looks at.
+pub record IsLike (one other : SemaphoreState) : Type 0 where
+  pub number : other.number ≡ one.number
+  pub line : AreAlike one.line other.line
+  pub held : other.held ≡ one.held
 
 -- what holds between any two calls
 pub record IsLawful (state : SemaphoreState) : Type 0 where

@@ -2,7 +2,7 @@
 ghost use Rattle.std.specs.Prelude.{◌≡◌};
 ghost use Rattle.band_sem.specs.Laws.{KeepsOrder, Leaves};
 ghost use Rattle.band_sem.specs.Request.{new_request, Joined};
-ghost use Rattle.band_sem.specs.Semaphore.{IsLawful, IsOwn, Polls, FirstPoll, LaterPoll, cancelled};
+ghost use Rattle.band_sem.specs.Semaphore.{IsLike, IsLawful, IsOwn, Polls, FirstPoll, LaterPoll, cancelled};
 ghost use Rattle.band_sem.specs.Whole.{StaysWhole};
 
 use crate::store::Entrance;
@@ -136,7 +136,7 @@ impl Acquire {
     pub fn cancel<L: Ledger>(self, sem: &mut Semaphore, steps: &mut Steps<L>)
         requires number { self.of ≡ sem.old.number }
         requires own { IsOwn self.stage self.size sem.old.line }
-        ensures state { sem.new ≡ cancelled self.stage sem.old }
+        ensures state { IsLike (cancelled self.stage sem.old) sem.new }
         ensures others { Leaves self.stage sem.old sem.new }
         ensures order { KeepsOrder sem.old.line sem.new.line }
         ensures lawful { IsLawful sem.new }

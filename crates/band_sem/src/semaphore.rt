@@ -4,7 +4,7 @@ ghost use Rattle.band_balance.specs.Line.{total, available, drained, overflows, 
 ghost use Rattle.band_sem.specs.Permit.{new_permit};
 ghost use Rattle.band_sem.specs.Request.{new_request};
 ghost use Rattle.band_sem.specs.Laws.{KeepsOrder, LeavesOthers};
-ghost use Rattle.band_sem.specs.Semaphore.{SemaphoreState, IsLawful, new_state, taken, given_back, forgotten, released, reduced, without_request, TakesWake};
+ghost use Rattle.band_sem.specs.Semaphore.{SemaphoreState, IsLike, IsLawful, new_state, taken, given_back, forgotten, released, reduced, without_request, TakesWake};
 ghost use Rattle.band_sem.specs.Kept.Store.{Enters, PollsSlot};
 ghost use Rattle.band_sem.specs.Whole.{IsWhole, StaysWhole};
 
@@ -126,7 +126,7 @@ impl Semaphore {
     pub fn release<L: Ledger>(&mut self, n: u64, steps: &mut Steps<L>) -> Result<(), ReleaseError>
         ensures overflow { IsErrOf result ReleaseError.Overflow
             ↔ IsTrue (overflows n self.old.line self.old.held) }
-        ensures ok { OnOk result (self.new ≡ released n self.old) }
+        ensures ok { OnOk result (IsLike (released n self.old) self.new) }
         ensures err { OnErr result (self.new ≡ self.old) }
         ensures order { KeepsOrder self.old.line self.new.line }
         ensures lawful { IsLawful self.new }
@@ -169,7 +169,7 @@ impl Semaphore {
         requires held { p.count ≤ self.old.held }
         requires keep { keep ≤ p.count }
         ensures permit { result ≡ record p { count = keep } }
-        ensures state { self.new ≡ given_back (p.count - keep) self.old }
+        ensures state { IsLike (given_back (p.count - keep) self.old) self.new }
         ensures order { KeepsOrder self.old.line self.new.line }
         ensures lawful { IsLawful self.new }
         ensures whole { StaysWhole self.old self.new }
@@ -196,7 +196,7 @@ impl Semaphore {
     pub fn drop_permit<L: Ledger>(&mut self, p: SemaphorePermit, steps: &mut Steps<L>)
         requires number { p.of ≡ self.old.number }
         requires held { p.count ≤ self.old.held }
-        ensures state { self.new ≡ given_back p.count self.old }
+        ensures state { IsLike (given_back p.count self.old) self.new }
         ensures order { KeepsOrder self.old.line self.new.line }
         ensures lawful { IsLawful self.new }
         ensures whole { StaysWhole self.old self.new }
@@ -232,10 +232,11 @@ impl Semaphore {
 
     /// Ends the request under this slot. Then the line settles.
     pub(crate) fn cancel(&mut self, slot: u64)
-        ensures state { self.new ≡ without_request slot self.old }
+        ensures state { IsLike (without_request slot self.old) self.new }
         ensures others { LeavesOthers slot self.old self.new }
         ensures order { KeepsOrder self.old.line self.new.line }
         ensures lawful { IsLawful self.new }
+        ensures whole { StaysWhole self.old self.new }
     {
         self.store.cancel(slot);
     }

@@ -3,7 +3,7 @@ ghost use Rattle.std.specs.Prelude.{◌≡◌, ◌+◌, ◌<◌, ◌≤◌, IsTr
 ghost use Rattle.band_balance.specs.Line.{is_served};
 ghost use Rattle.band_base.specs.declared.poll.Poll.TheVariants as poll;
 ghost use Rattle.band_sem.specs.Permit.{new_permit};
-ghost use Rattle.band_sem.specs.Semaphore.{IsLawful, IsOwn, Polls, taken, released};
+ghost use Rattle.band_sem.specs.Semaphore.{IsLike, IsLawful, IsOwn, Polls, taken, released};
 
 use crate::{Acquire, MergeError, ReduceError, ReleaseError, Semaphore, SemaphorePermit};
 use band_base::{Poll, PollError, Steps, Waker};
@@ -115,7 +115,7 @@ fn the_first_gives_up(rt: HostRuntime) {
 
 /// Adds permits.
 fn adds<L: Ledger, R: Abort>(rt: &R, sem: &mut Semaphore, n: u64, steps: &mut Steps<L>)
-    ensures state { sem.new ≡ released n sem.old }
+    ensures state { IsLike (released n sem.old) sem.new }
     ensures lawful { IsLawful sem.new }
 {
     if let Err(error) = sem.release(n, steps) {

@@ -12,8 +12,6 @@ mod playing;
 #[cfg(test)]
 mod rows;
 #[cfg(test)]
-mod stepping;
-#[cfg(test)]
 mod streams;
 #[cfg(test)]
 mod telling;

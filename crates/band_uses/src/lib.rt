@@ -4,11 +4,14 @@
 pub mod channels;
 pub mod counter;
 pub mod devices;
+pub mod ids;
 pub mod lines;
 pub mod locks;
 pub mod places;
+pub mod promises;
 pub mod refusals;
 pub mod scripts;
 pub mod semaphores;
+pub mod signals;
 pub mod waiters;
 pub mod wakers;

@@ -1,9 +1,9 @@
 //! A call of a script.
 ghost use Rattle.std.specs.Prelude.{◌≡◌, [], IfOk};
-ghost use Rattle.band_play.specs.Player.{Follows, ForReaders, wakers_left};
+ghost use Rattle.band_player.specs.Player.{Follows, ForReaders, wakers_left};
 
 use band_base::Steps;
-use band_play::{Call, Player, Reply};
+use band_player::{Call, Player, Reply};
 use std::alloc::AllocError;
 use std::sync::ledger::Ledger;
 

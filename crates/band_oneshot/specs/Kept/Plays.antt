@@ -11,12 +11,12 @@ use Rattle.band_oneshot.specs.declared.view.SenderView.{SenderView}
 use Rattle.band_oneshot.specs.declared.view.ReceiverView.{ReceiverView}
 use Rattle.band_oneshot.specs.declared.view.View.{View}
 use Rattle.band_oneshot.specs.declared.view.View.TheVariants as view
-use Rattle.band_oneshot.specs.Ends.{new_sender, new_receiver, Agree, sender_looked, added, parted, awoken, sent_finally, parted_finally, receiver_looked, poll_looked, cancel_looked, swapped, stored, left, fetched, awaking_ended, empty_ended}
+use Rattle.band_oneshot.specs.Ends.{new_sender, new_receiver, Agree, sender_looked, added, parted, awoken, sent_finally, parted_finally, receiver_looked, poll_looked, cancel_looked, swapped, stored, received, left, fetched, awaking_ended, empty_ended}
 use Rattle.band_oneshot.specs.Kept.Rule.{Seated}
 use Rattle.band_oneshot.specs.Words.{sender_makes, receiver_makes}
 
 -- the word that a receiver found can be there, and came of what the receiver left
-pub record ReceiverFinds (T : Type 0) (found : ℕ) (v : ReceiverView) : Type 0 where
+pub record ReceiverFinds (T : Type 0) (found : ℕ) (v : ReceiverView T) : Type 0 where
   pub sender : SenderView T
   pub agree : Agree found sender v
   pub follows : sender_makes v.word found ≡ true
@@ -26,7 +26,7 @@ module _ {T : Type 0} where
   sender_of (view.Sends v) = v
   sender_of other = new_sender
 
-  abbrev pub receiver_of : View T → ReceiverView
+  abbrev pub receiver_of : View T → ReceiverView T
   receiver_of (view.Receives v) = v
   receiver_of other = new_receiver
 
@@ -36,7 +36,7 @@ module _ {T : Type 0} where
 
   -- the word that a sender found can be there, and came of what the sender left
   pub record SenderFinds (found : ℕ) (v : SenderView T) : Type 0 where
-    pub receiver : ReceiverView
+    pub receiver : ReceiverView T
     pub agree : Agree found v receiver
     pub follows : receiver_makes v.word found ≡ true
 
@@ -75,7 +75,8 @@ module _ {T : Type 0} where
 
   abbrev pub ReceiverLooks : Seated T → ℕ → Seated T → Type 0
   ReceiverLooks m found n =
-      ReceiverFinds T found (receiver_of m.0) × (n ≡ (view.Receives (receiver_looked found (receiver_of m.0)), m.1))
+      ReceiverFinds T found (receiver_of m.0)
+      × (n ≡ (view.Receives (receiver_looked found (receiver_of m.0)), m.1))
 
   -- it has the waker's slot, where nothing is there yet
   abbrev pub PollLooks : Seated T → ℕ → Seated T → Type 0
@@ -85,13 +86,13 @@ module _ {T : Type 0} where
       × (found ≡ EMPTY → n.1 ≡ (1, None) ∷ m.1)
       × (found ≢ EMPTY → n.1 ≡ m.1)
 
-  -- it has the message's slot, where there is one
-  abbrev pub TakesMessage : Seated T → ℕ → ReceiverView → Seated T → Type 0
+  -- it has the message's slot too, where there is one
+  abbrev pub TakesMessage : Seated T → ℕ → ReceiverView T → Seated T → Type 0
   TakesMessage m found v n =
       ReceiverFinds T found (receiver_of m.0)
-      × (n.0 ≡ view.Receives v)
-      × (found ≡ MESSAGE → (message : T) × (n.1 ≡ (0, Some (held.Message message)) ∷ m.1))
-      × (found ≢ MESSAGE → n.1 ≡ m.1)
+      × (found ≡ MESSAGE → (message : T)
+      × (n.0 ≡ view.Receives (received message v)) × (n.1 ≡ (0, Some (held.Message message)) ∷ m.1))
+      × (found ≢ MESSAGE → (n.0 ≡ view.Receives v) × (n.1 ≡ m.1))
 
   abbrev pub CancelLooks : Seated T → ℕ → Seated T → Type 0
   CancelLooks m found n = TakesMessage m found (cancel_looked found (receiver_of m.0)) n
@@ -119,8 +120,10 @@ module _ {T : Type 0} where
 
   abbrev pub EndsAwaking : Seated T → ℕ → Seated T → Type 0
   EndsAwaking m found n =
-      ReceiverFinds T found (receiver_of m.0) × (n ≡ (view.Receives (awaking_ended found (receiver_of m.0)), m.1))
+      ReceiverFinds T found (receiver_of m.0)
+      × (n ≡ (view.Receives (awaking_ended found (receiver_of m.0)), m.1))
 
   abbrev pub EndsEmpty : Seated T → ℕ → Seated T → Type 0
   EndsEmpty m found n =
-      ReceiverFinds T found (receiver_of m.0) × (n ≡ (view.Receives (empty_ended found (receiver_of m.0)), m.1))
+      ReceiverFinds T found (receiver_of m.0)
+      × (n ≡ (view.Receives (empty_ended found (receiver_of m.0)), m.1))

@@ -1,5 +1,5 @@
 -- What holds of a channel between any two steps of its ends.
-use Rattle.std.specs.Prelude.{◌≡◌, ◌≢◌, ℕ, Bool, true, false, if◌then◌else◌, List, [], ◌∷◌, Option, Some, None, is_some}
+use Rattle.std.specs.Prelude.{◌≡◌, ◌≢◌, ℕ, Bool, true, false, if◌then◌else◌, List, [], ◌∷◌, Option, Some, None, is_some, ◌⊎◌}
 use mathlib.Core.Option.{some, none}
 use mathlib.Core.Option.{Option as Home}
 use Rattle.atomic_table.specs.Table.{State, Me}
@@ -39,11 +39,12 @@ module _ {T : Type 0} where
   message_home (sent.Message m) false = some (Some (held.Message m))
   message_home other taken = none
 
-  -- the word, what is at home, and what the ends know
-  pub record Kept (word : ℕ) (h0 h1 : Home (Slot T)) (s : SenderView T) (r : ReceiverView) : Type 0 where
+  -- the word, what is at home, and what the ends know. The word is what one of the ends left of it.
+  pub record Kept (word : ℕ) (h0 h1 : Home (Slot T)) (s : SenderView T) (r : ReceiverView T) : Type 0 where
     pub agree : Agree word s r
-    pub message : h0 ≡ message_home s.message r.has_message
+    pub message : h0 ≡ message_home s.message (is_some r.message)
     pub waker : h1 ≡ waker_home r.waker (is_some s.waker)
+    pub left : (word ≡ s.word) ⊎ (word ≡ r.word)
     pub found_by_sender : s.stage ≢ sender.Ended → receiver_makes s.word word ≡ true
     pub found_by_receiver : r.stage ≢ receiver.Ended → sender_makes r.word word ≡ true
 

@@ -1,9 +1,11 @@
 -- How far an end is, as a step of it asks.
-use Rattle.std.specs.Prelude.{◌≡◌, ℕ, Bool, true, List, Some, None, ◌⊎◌}
+use Rattle.std.specs.Prelude.{◌≡◌, ℕ, Bool, true, false, List, ◌∷◌, Some, None, ◌⊎◌}
+use Rattle.atomic_table.specs.Table.{rest}
 use Rattle.band_base.specs.declared.waker.Waker.{Waker}
 use Rattle.band_oneshot.specs.declared.word.TheConstants.{EMPTY, RECEIVING, DISCONNECTED}
 use Rattle.band_oneshot.specs.declared.state.SenderStage.TheVariants as sender
 use Rattle.band_oneshot.specs.declared.state.ReceiverStage.TheVariants as receiver
+use Rattle.band_oneshot.specs.declared.view.Held.TheVariants as held
 use Rattle.band_oneshot.specs.declared.view.Sent.TheVariants as sent
 use Rattle.band_oneshot.specs.declared.view.WakerSlot.TheVariants as slot
 use Rattle.band_oneshot.specs.declared.view.ReceiverView.{ReceiverView}
@@ -18,22 +20,22 @@ use Rattle.band_oneshot.specs.Words.{sender_makes}
 abbrev pub IsIdleWord : ℕ → Type 0
 IsIdleWord word = (word ≡ EMPTY) ⊎ ((word ≡ RECEIVING) ⊎ (word ≡ DISCONNECTED))
 
--- the receiver doesn't wait, or it waits
-abbrev pub MayWait : ReceiverView → Type 0
-MayWait v = (v.stage ≡ receiver.Plain) ⊎ (v.stage ≡ receiver.Waiting)
-
-abbrev pub MayCancel : ReceiverView → Type 0
-MayCancel v = (v.stage ≡ receiver.Plain) ⊎ ((v.stage ≡ receiver.Waiting) ⊎ (v.stage ≡ receiver.Cancelling))
-
--- its waker may be in the channel
-abbrev pub MayFetch : ReceiverView → Type 0
-MayFetch v = (v.stage ≡ receiver.Waiting) ⊎ (v.stage ≡ receiver.Cancelling)
-
--- where it may find EMPTY, it has not used the waker's slot
-abbrev pub IsFresh : ReceiverView → Type 0
-IsFresh v = v.stage ≡ receiver.Plain → sender_makes v.word EMPTY ≡ true → v.waker ≡ slot.Unused
-
 module _ {T : Type 0} where
+  -- the receiver doesn't wait, or it waits
+  abbrev pub MayWait : ReceiverView T → Type 0
+  MayWait v = (v.stage ≡ receiver.Plain) ⊎ (v.stage ≡ receiver.Waiting)
+
+  abbrev pub MayCancel : ReceiverView T → Type 0
+  MayCancel v = (v.stage ≡ receiver.Plain) ⊎ ((v.stage ≡ receiver.Waiting) ⊎ (v.stage ≡ receiver.Cancelling))
+
+  -- its waker may be in the channel
+  abbrev pub MayFetch : ReceiverView T → Type 0
+  MayFetch v = (v.stage ≡ receiver.Waiting) ⊎ (v.stage ≡ receiver.Cancelling)
+
+  -- where it may find EMPTY, it has not used the waker's slot
+  abbrev pub IsFresh : ReceiverView T → Type 0
+  IsFresh v = v.stage ≡ receiver.Plain → sender_makes v.word EMPTY ≡ true → v.waker ≡ slot.Unused
+
   -- the sender has not sent
   pub record IsIdle (m : Seated T) : Type 0 where
     pub sends : m.0 ≡ view.Sends (sender_of m.0)
@@ -47,6 +49,18 @@ module _ {T : Type 0} where
     pub stage : (sender_of m.0).stage ≡ sender.Awaking sending
     pub message : (sender_of m.0).message ≡ sent.Nothing
     pub waker : (sender_of m.0).waker ≡ Some w
+
+  -- in the midst of `send`, with the message in its slot
+  pub record IsSending (m : Seated T) : Type 0 where
+    pub waker : Waker
+    pub awaking : IsAwaking true waker m
+    pub message : T
+    pub slot : m.1 ≡ (0, Some (held.Message message)) ∷ rest m.1
+
+  -- in the midst of `disconnect`
+  pub record IsParting (m : Seated T) : Type 0 where
+    pub waker : Waker
+    pub awaking : IsAwaking false waker m
 
   abbrev pub Receives : Seated T → Type 0
   Receives m = m.0 ≡ view.Receives (receiver_of m.0)

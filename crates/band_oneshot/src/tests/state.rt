@@ -26,176 +26,161 @@ fn after(rt: &impl Abort, steps: &[OneshotStep]) -> OneshotState {
     channel
 }
 
-fn state(
-    word: u8,
-    message: Place,
-    waker: WakerPlace,
-    sender: SenderStage,
-    receiver: ReceiverStage,
-) -> OneshotState {
-    OneshotState {
-        word,
-        message,
-        waker,
-        sender,
-        receiver,
-    }
-}
+const SENDING: SenderStage = SenderStage::Awaking { sending: true };
+
+const SILENT: SenderStage = SenderStage::Awaking { sending: false };
+
+const TAKEN: WakerPlace = WakerPlace::Sender(Waker(1));
+
+/// Steps, and each field of the state after them.
+type Run = (
+    &'static [OneshotStep],
+    u8,
+    Place,
+    WakerPlace,
+    SenderStage,
+    ReceiverStage,
+);
+
+const RUNS: [Run; 12] = [
+    (
+        &[SenderLoad, Add],
+        MESSAGE,
+        Place::Channel,
+        WakerPlace::Nowhere,
+        SenderStage::Ended,
+        ReceiverStage::Plain,
+    ),
+    (
+        &[Add, LOOK, Store, TakeMessage],
+        DISCONNECTED,
+        Place::Receiver,
+        WakerPlace::Nowhere,
+        SenderStage::Ended,
+        ReceiverStage::Plain,
+    ),
+    (
+        &[Swap, Add],
+        UNREAD,
+        Place::HandedBack,
+        WakerPlace::Nowhere,
+        SenderStage::Ended,
+        ReceiverStage::Ended,
+    ),
+    (
+        &[ExclusiveOr, LOOK],
+        DISCONNECTED,
+        Place::Gone,
+        WakerPlace::Nowhere,
+        SenderStage::Ended,
+        ReceiverStage::Plain,
+    ),
+    (
+        &[LOOK, FIRST, EmptyToReceiving],
+        RECEIVING,
+        Place::Sender,
+        WakerPlace::Channel(Waker(1)),
+        SenderStage::Idle,
+        ReceiverStage::Waiting,
+    ),
+    (
+        &[
+            FIRST,
+            EmptyToReceiving,
+            LOOK,
+            ReceivingToEmpty,
+            SECOND,
+            EmptyToReceiving,
+        ],
+        RECEIVING,
+        Place::Sender,
+        WakerPlace::Channel(Waker(2)),
+        SenderStage::Idle,
+        ReceiverStage::Waiting,
+    ),
+    (
+        &[FIRST, Add, EmptyToReceiving, TakeBack],
+        MESSAGE,
+        Place::Channel,
+        WakerPlace::Nowhere,
+        SenderStage::Ended,
+        ReceiverStage::Plain,
+    ),
+    (
+        &[
+            FIRST,
+            EmptyToReceiving,
+            Add,
+            TakeWaker,
+            LOOK,
+            ReceivingToEmpty,
+        ],
+        AWAKING,
+        Place::Sender,
+        TAKEN,
+        SENDING,
+        ReceiverStage::Waiting,
+    ),
+    (
+        &[FIRST, EmptyToReceiving, Add, TakeWaker, FinalSwap],
+        MESSAGE,
+        Place::Channel,
+        TAKEN,
+        SenderStage::Ended,
+        ReceiverStage::Waiting,
+    ),
+    (
+        &[
+            FIRST,
+            EmptyToReceiving,
+            Add,
+            TakeWaker,
+            CANCEL,
+            AwakingToDisconnected,
+            FinalSwap,
+        ],
+        MESSAGE,
+        Place::Gone,
+        TAKEN,
+        SenderStage::Ended,
+        ReceiverStage::Ended,
+    ),
+    (
+        &[FIRST, EmptyToReceiving, ExclusiveOr, TakeWaker],
+        AWAKING,
+        Place::Sender,
+        TAKEN,
+        SILENT,
+        ReceiverStage::Waiting,
+    ),
+    (
+        &[
+            FIRST,
+            EmptyToReceiving,
+            CANCEL,
+            ReceivingToEmpty,
+            TakeBack,
+            CANCEL,
+            EmptyToDisconnected,
+        ],
+        DISCONNECTED,
+        Place::Sender,
+        WakerPlace::Nowhere,
+        SenderStage::Idle,
+        ReceiverStage::Ended,
+    ),
+];
 
 #[test]
 fn runs_lead_to_their_states(rt: HostRuntime) {
-    let sending = SenderStage::Awaking { sending: true };
-    let silent = SenderStage::Awaking { sending: false };
-    let taken = WakerPlace::Sender(Waker(1));
-    let nowhere = WakerPlace::Nowhere;
-    let ended = SenderStage::Ended;
-    let rows: [(&[OneshotStep], OneshotState); 12] = [
-        (
-            &[SenderLoad, Add],
-            state(
-                MESSAGE,
-                Place::Channel,
-                nowhere,
-                ended,
-                ReceiverStage::Plain,
-            ),
-        ),
-        (
-            &[Add, LOOK, Store, TakeMessage],
-            state(
-                DISCONNECTED,
-                Place::Receiver,
-                nowhere,
-                ended,
-                ReceiverStage::Plain,
-            ),
-        ),
-        (
-            &[Swap, Add],
-            state(
-                UNREAD,
-                Place::HandedBack,
-                nowhere,
-                ended,
-                ReceiverStage::Ended,
-            ),
-        ),
-        (
-            &[ExclusiveOr, LOOK],
-            state(
-                DISCONNECTED,
-                Place::Gone,
-                nowhere,
-                ended,
-                ReceiverStage::Plain,
-            ),
-        ),
-        (
-            &[LOOK, FIRST, EmptyToReceiving],
-            state(
-                RECEIVING,
-                Place::Sender,
-                WakerPlace::Channel(Waker(1)),
-                SenderStage::Idle,
-                ReceiverStage::Waiting,
-            ),
-        ),
-        (
-            &[
-                FIRST,
-                EmptyToReceiving,
-                LOOK,
-                ReceivingToEmpty,
-                SECOND,
-                EmptyToReceiving,
-            ],
-            state(
-                RECEIVING,
-                Place::Sender,
-                WakerPlace::Channel(Waker(2)),
-                SenderStage::Idle,
-                ReceiverStage::Waiting,
-            ),
-        ),
-        (
-            &[FIRST, Add, EmptyToReceiving, TakeBack],
-            state(
-                MESSAGE,
-                Place::Channel,
-                nowhere,
-                ended,
-                ReceiverStage::Plain,
-            ),
-        ),
-        (
-            &[
-                FIRST,
-                EmptyToReceiving,
-                Add,
-                TakeWaker,
-                LOOK,
-                ReceivingToEmpty,
-            ],
-            state(
-                AWAKING,
-                Place::Sender,
-                taken,
-                sending,
-                ReceiverStage::Waiting,
-            ),
-        ),
-        (
-            &[FIRST, EmptyToReceiving, Add, TakeWaker, FinalSwap],
-            state(
-                MESSAGE,
-                Place::Channel,
-                taken,
-                ended,
-                ReceiverStage::Waiting,
-            ),
-        ),
-        (
-            &[
-                FIRST,
-                EmptyToReceiving,
-                Add,
-                TakeWaker,
-                CANCEL,
-                AwakingToDisconnected,
-                FinalSwap,
-            ],
-            state(MESSAGE, Place::Gone, taken, ended, ReceiverStage::Ended),
-        ),
-        (
-            &[FIRST, EmptyToReceiving, ExclusiveOr, TakeWaker],
-            state(
-                AWAKING,
-                Place::Sender,
-                taken,
-                silent,
-                ReceiverStage::Waiting,
-            ),
-        ),
-        (
-            &[
-                FIRST,
-                EmptyToReceiving,
-                CANCEL,
-                ReceivingToEmpty,
-                TakeBack,
-                CANCEL,
-                EmptyToDisconnected,
-            ],
-            state(
-                DISCONNECTED,
-                Place::Sender,
-                nowhere,
-                SenderStage::Idle,
-                ReceiverStage::Ended,
-            ),
-        ),
-    ];
-    for (steps, wanted) in rows {
+    for (steps, word, message, waker, sender, receiver) in RUNS {
+        let wanted = OneshotState {
+            word,
+            message,
+            waker,
+            sender,
+            receiver,
+        };
         assert!(rt; after(&rt, steps) == wanted);
     }
 }

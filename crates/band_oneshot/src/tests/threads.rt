@@ -1,13 +1,13 @@
-//! Both ends go to other threads.
+//! The two ends step at once, each in a thread.
 
-use super::ends::{Answer, poll, sent};
+use super::calls::{Answer, poll};
 use crate::*;
 use std::test::Fail;
 use std::thread;
 
 const MOST_TURNS: u32 = 1_000_000;
 
-/// Polls until the wait is over, for so many turns at most.
+/// Polls until the message is there, for so many turns at most.
 fn poll_long(recv: Recv<u32>) -> (Answer, Recv<u32>) {
     let mut recv = recv;
     let mut answer = Answer::Pending;
@@ -21,41 +21,27 @@ fn poll_long(recv: Recv<u32>) -> (Answer, Recv<u32>) {
 }
 
 #[test]
-fn a_message_comes_from_another_thread(rt: HostRuntime) -> Result<(), Fail> {
+fn a_message_goes_from_thread_to_thread(rt: HostRuntime) -> Result<(), Fail> {
     let (sender, receiver) = channel(rt.alloc())?;
     let recv = receiver.into_future();
-    let (sending, (early, mut recv)) = thread::join(
+    let (here, received_here) = thread::join(
         &rt,
-        move || sent(sender.send(7).0),
+        move || sender.send(7).0.is_ok(),
         move || poll_long(recv),
     );
-    assert!(rt; sending.is_ok());
-    let answer = if early == Answer::Message(7) {
-        early
-    } else {
-        poll(&mut recv, 0)
-    };
-    assert!(rt; answer == Answer::Message(7));
-    assert!(rt; recv.cancel().0 == None);
-    Ok(())
-}
-
-#[test]
-fn a_message_goes_to_another_thread(rt: HostRuntime) -> Result<(), Fail> {
     let (sender, receiver) = channel(rt.alloc())?;
     let recv = receiver.into_future();
-    let ((early, mut recv), sending) = thread::join(
+    let (received_there, there) = thread::join(
         &rt,
         move || poll_long(recv),
-        move || sent(sender.send(7).0),
+        move || sender.send(7).0.is_ok(),
     );
-    assert!(rt; sending.is_ok());
-    let answer = if early == Answer::Message(7) {
-        early
-    } else {
-        poll(&mut recv, 0)
-    };
-    assert!(rt; answer == Answer::Message(7));
-    assert!(rt; recv.cancel().0 == None);
+    assert!(rt; here && there);
+    for (early, recv) in [received_here, received_there] {
+        let mut recv = recv;
+        if early != Answer::Message(7) {
+            assert!(rt; poll(&mut recv, 0) == Answer::Message(7));
+        }
+    }
     Ok(())
 }

@@ -1,5 +1,5 @@
 use Rattle.std.proofs.Common.{◌≡◌, ◌++◌, string_bytes, flat_map, length}
-use Rattle.band_play.specs.Player.{wakers_left, Stays}
+use Rattle.band_player.specs.Player.{wakers_left, Stays}
 use Rattle.band_rules.specs.Text.{wake_line}
 use Rattle.band_play.proofs.lines.push_wakes.Given as goal
 

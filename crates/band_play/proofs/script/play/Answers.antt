@@ -1,30 +1,71 @@
-use Rattle.band_play.specs.declared.fault.PlayFault.TheVariants as faults
-use Rattle.band_play.proofs.Answering.{says_ok, says_all_read, says_fault, says_outcome}
+use Rattle.std.proofs.Common.{◌≤◌, [], length, ap, length-take, refl, arith}
+use Rattle.std.proofs.lemmas.Result.{err_from_is_err_and}
+use Rattle.band_play.specs.Play.{End, end_of}
+use Rattle.band_play.proofs.Answering.{answers_read, answers_end, answers_over, answers_fault, so_far_more, keeps_up, keeps_up_still, nothing_given, front_fault, front_over, none_in}
 use Rattle.band_play.proofs.script.play.Goals as goal
 
-pub returns-clause-ok : goal.returns-clause-ok
-returns-clause-ok g c = says_ok c.play_pieces.result _ _ _ _ _ _ c.play_pieces.ensures.answers
+pub returns-in_err-given : goal.returns-in_err-given
+returns-in_err-given g c =
+    let p = err_from_is_err_and c.from_residual.result c.from_residual.ensures.1 in
+    let source : End = end_of g.S.Source.left g.S.Source.faults c.args.src.now c.read_piece.new.src in
+    let sink : End = end_of g.D.Sink.written g.D.Sink.faults c.args.dst.now c.pieces.dst in
+    rw (p.1, p.2) (record {
+      answers = answers_read _ _ c.pieces.playing source sink _ _ c.pieces.invariant.so_far c.in_err-given.ensures.err c.pieces.invariant.reads_never_fall c.in_err-given.ensures.failed;
+      keeps_up = keeps_up_still _ _ [] c.pieces.playing _ _ _ _ _ c.pieces.invariant.so_far (nothing_given [] _ _ c.in_err-given.ensures.err refl) refl;
+      reads_never_fall = omega (arith, c.read_piece.ensures.never_fall, c.pieces.invariant.reads_never_fall);
+      writes_never_fall = c.pieces.invariant.writes_never_fall;
+    })
 
-pub returns-clause-all_read : goal.returns-clause-all_read
-returns-clause-all_read g c = says_all_read c.play_pieces.result _ _ _ _ _ _ c.play_pieces.ensures.answers
+pub returns-then-is_empty : goal.returns-then-is_empty
+returns-then-is_empty g c =
+    let none = none_in c.in_ok-given.given.now c.if-is_empty.ensures in
+    let source : End = end_of g.S.Source.left g.S.Source.faults c.args.src.now c.read_piece.new.src in
+    let sink : End = end_of g.D.Sink.written g.D.Sink.faults c.args.dst.now c.pieces.dst in
+    rw c.end.ensures (record {
+      answers = answers_end _ _ c.in_ok-given.given.now c.pieces.playing source sink _ c.pieces.invariant.so_far c.in_ok-given.ensures.front none (c.in_ok-given.ensures.end none);
+      keeps_up = keeps_up_still _ _ c.in_ok-given.given.now c.pieces.playing _ _ _ _ _ c.pieces.invariant.so_far c.in_ok-given.ensures.front none;
+      reads_never_fall = omega (arith, c.read_piece.ensures.never_fall, c.pieces.invariant.reads_never_fall);
+      writes_never_fall = c.pieces.invariant.writes_never_fall;
+    })
 
-pub returns-clause-malformed : goal.returns-clause-malformed
-returns-clause-malformed g c = λ line is. says_fault c.play_pieces.result (faults.Malformed line) _ _ _ _ _ _ c.play_pieces.ensures.answers is
+pub returns-in_err-feed : goal.returns-in_err-feed
+returns-in_err-feed g c =
+    let p = err_from_is_err_and c.from_residual-in_err-feed.result c.from_residual-in_err-feed.ensures.1 in
+    let source : End = end_of g.S.Source.left g.S.Source.faults c.args.src.now c.read_piece.new.src in
+    let sink : End = end_of g.D.Sink.written g.D.Sink.faults c.args.dst.now c.feed.new.dst in
+    rw (p.1, p.2) (record {
+      answers = answers_fault c.in_err-feed.field-0.0 _ _ c.in_ok-given.given.now c.within.result.now c.pieces.playing source sink _ _ _ c.pieces.invariant.so_far
+          c.in_ok-given.ensures.front c.pieces.invariant.writes_never_fall c.within.ensures c.in_err-feed.ensures.stops;
+      keeps_up = keeps_up _ _ c.in_ok-given.given.now _ c.pieces.playing _ _ _ _ _ _ c.pieces.invariant.so_far
+          c.in_ok-given.ensures.front c.in_ok-given.ensures.fits c.in_ok-given.ensures.count c.feed.ensures.adds.1
+          (front_fault c.in_err-feed.field-0.0 _ _ c.in_ok-given.given.now c.within.result.now c.pieces.playing _ _ _ _ _ _ _ c.pieces.invariant.so_far c.within.ensures c.in_err-feed.ensures.stops);
+      reads_never_fall = omega (arith, c.read_piece.ensures.never_fall, c.pieces.invariant.reads_never_fall);
+      writes_never_fall = omega (arith, c.feed.ensures.never_fall, c.pieces.invariant.writes_never_fall);
+    })
 
-pub returns-clause-too_long : goal.returns-clause-too_long
-returns-clause-too_long g c = λ is. (says_fault c.play_pieces.result faults.TooLong _ _ _ _ _ _ c.play_pieces.ensures.answers is).0
+pub returns-then-given-left : goal.returns-then-given-left
+returns-then-given-left g c =
+    let source : End = end_of g.S.Source.left g.S.Source.faults c.args.src.now c.read_piece.new.src in
+    let sink : End = end_of g.D.Sink.written g.D.Sink.faults c.args.dst.now c.feed.new.dst in
+    record {
+      answers = answers_over _ _ c.in_ok-given.given.now c.within.result.now c.pieces.playing c.feed.new.self source sink _ _ c.pieces.invariant.so_far
+          c.in_ok-given.ensures.front c.if-given-left.true c.in_ok-given.ensures.count c.within.ensures c.in_ok-feed.ensures.plays;
+      keeps_up = keeps_up _ _ c.in_ok-given.given.now _ c.pieces.playing _ _ _ _ _ _ c.pieces.invariant.so_far
+          c.in_ok-given.ensures.front c.in_ok-given.ensures.fits c.in_ok-given.ensures.count c.feed.ensures.adds.1
+          (front_over _ _ c.in_ok-given.given.now c.within.result.now c.pieces.playing c.feed.new.self _ _ _ _ _ c.pieces.invariant.so_far c.within.ensures c.in_ok-feed.ensures.plays);
+      reads_never_fall = omega (arith, c.read_piece.ensures.never_fall, c.pieces.invariant.reads_never_fall);
+      writes_never_fall = omega (arith, c.feed.ensures.never_fall, c.pieces.invariant.writes_never_fall);
+    }
 
-pub returns-clause-past : goal.returns-clause-past
-returns-clause-past g c = λ is. (says_fault c.play_pieces.result faults.TooLong _ _ _ _ _ _ c.play_pieces.ensures.answers is).1
-
-pub returns-clause-read : goal.returns-clause-read
-returns-clause-read g c = λ is. (says_fault c.play_pieces.result faults.Read _ _ _ _ _ _ c.play_pieces.ensures.answers is).1
-
-pub returns-clause-stops : goal.returns-clause-stops
-returns-clause-stops g c = λ is. (says_fault c.play_pieces.result faults.Read _ _ _ _ _ _ c.play_pieces.ensures.answers is).0
-
-pub returns-clause-write : goal.returns-clause-write
-returns-clause-write g c = λ is. says_fault c.play_pieces.result faults.Write _ _ _ _ _ _ c.play_pieces.ensures.answers is
-
-pub returns-clause-completes : goal.returns-clause-completes
-returns-clause-completes g c = λ reads writes. says_outcome c.play_pieces.result _ _ _ _ _ _ c.play_pieces.ensures.answers reads writes
+pub pieces-preserved : goal.pieces-preserved
+pieces-preserved g c =
+    let fits : length c.in_ok-given.given.now ≤ c.pieces.left = c.if-given-left.false in
+    let cut : length c.within.result.now ≤ length c.in_ok-given.given.now = omega (arith, ap length c.within.ensures, length-take c.pieces.left c.in_ok-given.given.now) in
+    record {
+      so_far = so_far_more _ _ _ c.in_ok-given.given.now c.within.result.now c.pieces.playing c.feed.new.self _ _ _ _ _ _ c.pieces.invariant.so_far
+          c.in_ok-given.ensures.front fits (omega arith) c.within.ensures c.in_ok-feed.ensures.plays;
+      quiet = c.in_ok-feed.ensures.quiet;
+      count = omega (arith, c.in_ok-feed.ensures.lines, c.pieces.invariant.count);
+      reads_never_fall = omega (arith, c.read_piece.ensures.never_fall, c.pieces.invariant.reads_never_fall);
+      writes_never_fall = omega (arith, c.feed.ensures.never_fall, c.pieces.invariant.writes_never_fall);
+    }

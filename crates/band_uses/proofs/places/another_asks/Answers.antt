@@ -8,4 +8,4 @@ cancel-requires-clause-own g c =
 pub returns : goal.returns
 returns g c =
     let after = IsOwn-polls c.args.mine.now c.args.sem.now c.poll_once-answer.new.sem c.requires.own c.args.other c.poll_once-answer.new.self 0 c.poll_once-answer.result c.requires.apart c.poll_once-answer.ensures.polls in
-    IsOwn-cancels c.args.mine.now c.poll_once-answer.new.sem c.cancel.new.sem after.0 c.poll_once-answer.new.self.stage after.1 c.cancel.ensures.state
+    IsOwn-cancels c.args.mine.now c.poll_once-answer.new.sem c.cancel.new.sem after.0 c.poll_once-answer.new.self.stage after.1 c.cancel.ensures.state c.cancel.ensures.lawful

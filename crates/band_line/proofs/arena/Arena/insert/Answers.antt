@@ -1,9 +1,10 @@
-use Rattle.std.proofs.Common.{◌≡◌, ℕ, ◌-◌, ◌<◌, List, length, map, get_or, arith, ap, sym, ◌∙◌, Option, Some, None}
-use Rattle.std.proofs.lemmas.List.{get_or-map}
+use Rattle.std.proofs.Common.{◌≡◌, ℕ, ◌-◌, ◌<◌, List, length, map, get_or, arith, ap, sym, ◌∙◌, Option, Some, None, length-set}
+use Rattle.std.proofs.lemmas.List.{get_or-map, length_push}
 use Rattle.band_line.specs.Slots.{value_of, next_of, next_at, IsArena}
 use Rattle.band_line.specs.declared.arena.Slot.{Slot}
 use Rattle.band_line.specs.declared.arena.Slot.TheVariants.{Occupied}
 use Rattle.band_line.proofs.ArenaLemmas.{fills, pushes, first_vacant, first_within, all_occupied, vacant_at, differs, value-set_same}
+use Rattle.band_line.proofs.SoundArena.{sound_arena}
 use Rattle.band_line.proofs.arena.Arena.insert.Given.{Over}
 use Rattle.band_line.proofs.arena.Arena.insert.Goals as goal
 
@@ -73,3 +74,15 @@ pub returns-in-Vacant-clause-others : goal.returns-in-Vacant-clause-others
 returns-in-Vacant-clause-others g c = λ other differs.
     rw (c.replace.ensures.after, ← c.self.view_is)
     ((fills c.args.value c.self.invariant (begins g c) (tells g c)).others other (λ e. differs (e ∙ c.index.ensures)))
+
+pub returns-in-Vacant-clause-sound : goal.returns-in-Vacant-clause-sound
+returns-in-Vacant-clause-sound g c =
+    rw c.replace.ensures.after
+    (sound_arena (omega (arith, length-set c.self.inside.slots.items c.index.result (Occupied c.args.value))) (fills c.args.value c.self.invariant (begins g c) (tells g c)).sound)
+
+pub returns-in-None-clause-sound : goal.returns-in-None-clause-sound
+returns-in-None-clause-sound g c =
+    let none = sym c.get.ensures ∙ c.in-None.is in
+    let room = room_behind c.self.invariant none (rw (← c.self.view_is) at c.requires) in
+    rw (c.push_reserved.ensures.items, c.push_reserved.ensures.capacity)
+    (sound_arena (omega (arith, length_push c.self.inside.slots.items (Occupied c.args.value), room)) (pushes c.args.value c.self.invariant none).sound)

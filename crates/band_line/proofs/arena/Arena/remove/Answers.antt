@@ -1,8 +1,9 @@
-use Rattle.std.proofs.Common.{◌≡◌, None, IsSome, arith, get_or, map, set, ◌-◌, Some}
+use Rattle.std.proofs.Common.{◌≡◌, None, IsSome, arith, get_or, map, set, ◌-◌, Some, length-set}
 use Rattle.band_line.specs.Arena.{removed}
 use Rattle.band_line.specs.Slots.{value_of, state_of}
 use Rattle.band_line.specs.declared.arena.Slot.TheVariants.{Vacant}
 use Rattle.band_line.proofs.ArenaLemmas.{Leaves, vacates, some_value, occupied_within, value-set_same}
+use Rattle.band_line.proofs.SoundArena.{sound_arena}
 use Rattle.band_line.proofs.arena.Arena.remove.Given.{Over}
 use Rattle.band_line.proofs.arena.Arena.remove.Goals as goal
 
@@ -39,3 +40,8 @@ returns-clause-others g c = λ other differs. rw (put g c, c.index.ensures, ← 
 pub returns-clause-len : goal.returns-clause-len
 returns-clause-len g c =
     rw (put g c, c.index.ensures, ← c.self.view_is) (omega (arith, (left g c).sound.counted, c.self.invariant.counted, some_value c.args.id c.self.invariant (here g c)))
+
+pub returns-clause-sound : goal.returns-clause-sound
+returns-clause-sound g c =
+    rw (put g c, c.replace-before.ensures.after, c.to.ensures, c.index.ensures)
+    (sound_arena (omega (arith, length-set c.self.inside.slots.items c.args.id (Vacant c.self.inside.vacant))) (left g c).sound)

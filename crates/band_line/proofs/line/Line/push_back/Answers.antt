@@ -2,9 +2,10 @@ use Rattle.std.proofs.Common.{sym, ◌∙◌, ap, Some, is_some, cond}
 use Rattle.band_line.specs.WaitList.{pushed_back}
 use Rattle.band_line.specs.Line.{list_of, pointed_next}
 use Rattle.band_line.proofs.Linking.{back_linked}
-use Rattle.band_line.proofs.LineLemmas.{Inserts, Makes, pushes_back, gains_back, stays_linked, waits, sound_list}
+use Rattle.band_line.proofs.LineLemmas.{Inserts, Makes, pushes_back, gains_back, stays_linked, waits, sound_list, node_values-pointed_next}
 use Rattle.band_line.proofs.ArenaMaps.{next_slot-arena_map}
 use Rattle.band_line.proofs.WaitListLemmas.{joins_back}
+use Rattle.band_line.proofs.SoundArena.{sound_mapped}
 use Rattle.band_line.proofs.line.Line.push_back.Given.{Over}
 use Rattle.band_line.proofs.line.Line.push_back.Goals as goal
 
@@ -42,7 +43,7 @@ pub returns-clause-len : goal.returns-clause-len
 returns-clause-len g c = rw (c.point_next.ensures.nodes, c.to-new.ensures, ← c.self.view_is) (gains_back (inserts g c) c.self.inside.back).len
 
 pub returns-clause-sound : goal.returns-clause-sound
-returns-clause-sound g c = rw (← c.self.view_is) (sound_list c.self.invariant)
+returns-clause-sound g c = rw (c.point_next.ensures.nodes, c.point_next.ensures.front, c.to-new.ensures) (sound_list (made g c).line)
 
 pub returns-clause-joins : goal.returns-clause-joins
 returns-clause-joins g c =
@@ -52,3 +53,8 @@ returns-clause-joins g c =
 pub returns-clause-others : goal.returns-clause-others
 returns-clause-others g c = λ other differs.
     rw (c.point_next.ensures.nodes, c.to-new.ensures, ← c.self.view_is) ((gains_back (inserts g c) c.self.inside.back).others other differs)
+
+pub returns-clause-nodes : goal.returns-clause-nodes
+returns-clause-nodes g c =
+    rw (c.point_next.ensures.nodes, c.to-new.ensures, node_values-pointed_next c.insert-id.new.self c.self.inside.back (Some c.insert-id.result))
+    (sound_mapped (λ node. node.value) c.insert-id.new.self c.insert-id.ensures.sound)

@@ -1,9 +1,10 @@
 use Rattle.std.proofs.Common.{sym, ◌∙◌, ap, Some, is_some, cond}
 use Rattle.band_line.specs.WaitList.{pushed_front}
 use Rattle.band_line.specs.Line.{list_of, pointed_prev}
-use Rattle.band_line.proofs.LineLemmas.{Inserts, Makes, pushes_front, gains_front, sound_list}
+use Rattle.band_line.proofs.LineLemmas.{Inserts, Makes, pushes_front, gains_front, sound_list, node_values-pointed_prev}
 use Rattle.band_line.proofs.ArenaMaps.{next_slot-arena_map}
 use Rattle.band_line.proofs.WaitListLemmas.{joins_front}
+use Rattle.band_line.proofs.SoundArena.{sound_mapped}
 use Rattle.band_line.proofs.line.Line.push_front.Given.{Over}
 use Rattle.band_line.proofs.line.Line.push_front.Goals as goal
 
@@ -34,7 +35,7 @@ pub returns-clause-len : goal.returns-clause-len
 returns-clause-len g c = rw (c.point_prev.ensures.nodes, c.to-new.ensures, ← c.self.view_is) (gains_front (inserts g c) c.self.inside.front).len
 
 pub returns-clause-sound : goal.returns-clause-sound
-returns-clause-sound g c = rw (← c.self.view_is) (sound_list c.self.invariant)
+returns-clause-sound g c = rw (c.point_prev.ensures.nodes, c.to-new.ensures) (sound_list (made g c).line)
 
 pub returns-clause-joins : goal.returns-clause-joins
 returns-clause-joins g c =
@@ -44,3 +45,8 @@ returns-clause-joins g c =
 pub returns-clause-others : goal.returns-clause-others
 returns-clause-others g c = λ other differs.
     rw (c.point_prev.ensures.nodes, c.to-new.ensures, ← c.self.view_is) ((gains_front (inserts g c) c.self.inside.front).others other differs)
+
+pub returns-clause-nodes : goal.returns-clause-nodes
+returns-clause-nodes g c =
+    rw (c.point_prev.ensures.nodes, c.to-new.ensures, node_values-pointed_prev c.insert-id.new.self c.self.inside.front (Some c.insert-id.result))
+    (sound_mapped (λ node. node.value) c.insert-id.new.self c.insert-id.ensures.sound)

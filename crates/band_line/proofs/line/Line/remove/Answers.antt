@@ -2,6 +2,7 @@ use Rattle.band_line.specs.Arena.{removed}
 use Rattle.band_line.specs.WaitList.{removed_waiter}
 use Rattle.band_line.specs.Line.{list_of}
 use Rattle.band_line.proofs.LineLemmas.{Makes, Loses, node_values, removes, loses, no_links, held, sound_list}
+use Rattle.band_line.proofs.SoundArena.{sound_mapped}
 use Rattle.band_line.proofs.line.Line.remove.Given.{Over}
 use Rattle.band_line.proofs.line.Line.remove.Goals as goal
 
@@ -28,4 +29,7 @@ pub returns-clause-len : goal.returns-clause-len
 returns-clause-len g c = rw (c.remove-value.ensures.state, ← c.self.view_is) (lost g c).len
 
 pub returns-clause-sound : goal.returns-clause-sound
-returns-clause-sound g c = rw (← c.self.view_is) (sound_list c.self.invariant)
+returns-clause-sound g c = rw c.remove-value.ensures.state (sound_list (made g c).line)
+
+pub returns-clause-nodes : goal.returns-clause-nodes
+returns-clause-nodes g c = sound_mapped (λ node. node.value) c.remove-value.new.self c.remove-value.ensures.sound

@@ -1,7 +1,7 @@
-use Rattle.std.proofs.Common.{◌≡◌, Some, true, arith, refl, sym, ◌∙◌}
+use Rattle.std.proofs.Common.{◌≡◌, Some, true, arith, refl, sym, ap, ◌∙◌}
 use Rattle.band_line.specs.Arena.{value_at}
-use Rattle.band_line.specs.Line.{node_value, changed_at, asked, closed}
-use Rattle.band_line.proofs.LineLemmas.{detaches, writes, held, value_is, neighbors_asked, gap_visits-le, gap_visits-first, sound_list}
+use Rattle.band_line.specs.Line.{node_value, changed_at, asked, closed, gap_visits}
+use Rattle.band_line.proofs.LineLemmas.{detaches, writes, held, value_is, neighbors_asked, gap_visits-le, gap_visits-first, sound_list, no_links}
 use Rattle.band_line.specs.WaitList.{IsWaitList}
 use Rattle.band_line.proofs.WaitListLemmas.{after_write, after_unlink}
 use Rattle.band_line.proofs.line.Line.unlink.Goals as goal
@@ -35,6 +35,7 @@ returns-in_err-gap g c =
         sound = rw (← c.self.view_is) (sound_list c.self.invariant);
         visits = c.in_err-gap.ensures.visits;
         first = λ e. omega (arith, c.in_err-gap.ensures.visits);
+        already = λ e. omega (arith, c.in_err-gap.ensures.visits);
       },
     )
 
@@ -86,5 +87,8 @@ returns g c =
         first = λ e.
             let beside = gap_visits-first c.self.invariant c.in_ok-gap.ensures.had (rw (← c.self.view_is) at e) in
             omega (arith, steps, c.close_gap.ensures.visits, c.waiter_mut.ensures.visits, beside);
+        already = λ e.
+            let none = c.in_ok-gap.ensures.had ∙ no_links c.args.id c.self.invariant (rw (← c.self.view_is) at e) in
+            omega (arith, steps, c.close_gap.ensures.visits, c.waiter_mut.ensures.visits, ap gap_visits none);
       },
     )

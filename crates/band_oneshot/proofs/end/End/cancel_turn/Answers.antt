@@ -20,7 +20,7 @@ returns-clause-turns g c =
     receiving_left _ c.cancel_load-found.ensures.word c.if-found-eq-MESSAGE.false c.if-found-eq-DISCONNECTED.false
     c.if-found-eq-EMPTY.false c.if-found-eq-AWAKING.false in
     let looked : receiver_of c.cancel_load-found.new.self.seat.me.0 ≡ cancel_looked RECEIVING before =
-    ap receiver_of c.cancel_load-found.ensures.play.1 ∙ ap (λ (x : ℕ). cancel_looked x before) found in
+    ap receiver_of (c.cancel_load-found.ensures.play.2 c.if-found-eq-MESSAGE.false).0 ∙ ap (λ (x : ℕ). cancel_looked x before) found in
     let last : c.if-receiving_to_empty-eq-RECEIVING.self.seat.me.0 ≡ c.receiving_to_empty.new.self.seat.me.0 =
     elim c.if-receiving_to_empty-eq-RECEIVING.branch [
       | then-receiving_to_empty-eq-RECEIVING w ↦ ap (λ x. x.seat.me.0) w.self-is ∙ ap (λ x. x.0) w.drop_waker.ensures

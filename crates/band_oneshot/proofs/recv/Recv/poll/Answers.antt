@@ -19,4 +19,5 @@ pub returns-then-now-eq-RECEIVING-clause-polls : goal.returns-then-now-eq-RECEIV
 returns-then-now-eq-RECEIVING-clause-polls g c =
     let looked = looked_at _ _ _ c.args.self.now _ c.poll_load-found.ensures.play.1 c.if-found-eq-RECEIVING.true c.self.view_is in
     let back = fetched_at _ _ _ _ c.receiving_to_empty-now.ensures.play.1 c.if-now-eq-RECEIVING.true looked in
-    polls_again _ c.args.self.now (receiver_of c.register-then-now-eq-RECEIVING.new.self.seat.me.0) c.register-then-now-eq-RECEIVING.result (rw back at c.register-then-now-eq-RECEIVING.ensures.registers)
+    polls_again _ c.args.self.now (receiver_of c.register-then-now-eq-RECEIVING.new.self.seat.me.0) c.register-then-now-eq-RECEIVING.result
+    (rw back at c.register-then-now-eq-RECEIVING.ensures.registers)

@@ -13,12 +13,14 @@ returns-in_err-malformed-clause-stops g c =
 pub returns-in_err-write_text-clause-stops : goal.returns-in_err-write_text-clause-stops
 returns-in_err-write_text-clause-stops g c =
     let p = err_from_is_err_and c.from_residual-in_err-write_text.result c.from_residual-in_err-write_text.ensures.1 in
-    rw p.1 (λ given start played. piece_unwritten c.in_ok-malformed.malformed c.in_err-write_text.field-0.0 p.0 c.args.piece.now c.args.self.now c.run_lines.new.self _ _ _ _ p.2 c.in_ok-malformed.ensures.runs c.in_err-write_text.ensures.err (λ e. c.in_err-write_text.ensures.failed (cc)) given start played)
+    rw p.1 (λ given start played. piece_unwritten c.in_ok-malformed.malformed c.in_err-write_text.field-0.0 p.0 c.args.piece.now c.args.self.now c.run_lines.new.self _ _ _ _ p.2
+    c.in_ok-malformed.ensures.runs c.in_err-write_text.ensures.err (λ e. c.in_err-write_text.ensures.failed (cc)) given start played)
 
 pub returns-in-None-clause-plays : goal.returns-in-None-clause-plays
 returns-in-None-clause-plays g c = λ given start played.
     let P : Option ℕ → Type 0 = λ m. RunsPiece m c.args.piece.now c.args.self.now c.run_lines.new.self in
-    piece_played c.args.piece.now c.args.self.now c.run_lines.new.self c.write_text.new.self _ _ (subst P c.in-None.is c.in_ok-malformed.ensures.runs) c.in_ok-write_text.ensures.ok c.write_text.ensures.others c.in_ok-write_text.ensures.emptied given start played
+    piece_played c.args.piece.now c.args.self.now c.run_lines.new.self c.write_text.new.self _ _
+    (subst P c.in-None.is c.in_ok-malformed.ensures.runs) c.in_ok-write_text.ensures.ok c.write_text.ensures.others c.in_ok-write_text.ensures.emptied given start played
 
 pub returns-in-Some-clause-stops : goal.returns-in-Some-clause-stops
 returns-in-Some-clause-stops g c = λ given start played.

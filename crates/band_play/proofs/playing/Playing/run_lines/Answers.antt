@@ -8,7 +8,8 @@ returns-in_default-take_call-clause-runs g c = λ given front run.
 
 pub loop-end-preserved : goal.loop-end-preserved
 loop-end-preserved g c = record {
-  runs = line_more _ _ c.in-Some.end.now c.in-Some.after.now c.in-Some-take_call.call _ c.loop-end.self _ c.loop-end.invariant.runs c.in-Some.ensures.0 c.in-Some.ensures.1 c.in-Some-take_call.ensures.call c.in_ok-tell_call.ensures.tells refl c.take_call.ensures.emptied;
+  runs = line_more _ _ c.in-Some.end.now c.in-Some.after.now c.in-Some-take_call.call _ c.loop-end.self _ c.loop-end.invariant.runs
+      c.in-Some.ensures.0 c.in-Some.ensures.1 c.in-Some-take_call.ensures.call c.in_ok-tell_call.ensures.tells refl c.take_call.ensures.emptied;
   quiet = c.in_ok-tell_call.ensures.quiet;
   count = omega (arith, c.loop-end.invariant.count, ap length c.in-Some.ensures.0, length-append c.in-Some.end.now (10 ∷ c.in-Some.after.now));
 }

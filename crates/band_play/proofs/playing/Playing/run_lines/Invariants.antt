@@ -1,5 +1,5 @@
 use Rattle.std.proofs.Common.{◌≡◌, ◌+◌, ◌≤◌, [], length}
-use Rattle.band_play.specs.Player.{wakers_left}
+use Rattle.band_player.specs.Player.{wakers_left}
 use Rattle.band_play.proofs.Pieces.{RunsUpTo}
 use Rattle.band_play.proofs.playing.Playing.run_lines.Given as goal
 

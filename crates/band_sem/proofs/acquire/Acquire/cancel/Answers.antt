@@ -1,6 +1,6 @@
-use Rattle.std.proofs.Common.{refl, ◌∙◌}
+use Rattle.std.proofs.Common.{refl}
 use Rattle.band_sem.proofs.Laws.{KeepsOrder-same}
-use Rattle.band_sem.proofs.Whole.{StaysWhole-without_request, StaysWhole-same}
+use Rattle.band_sem.proofs.Whole.{StaysWhole-same}
 use Rattle.band_sem.proofs.acquire.Acquire.cancel.Goals as goal
 use Rattle.band_sem.proofs.acquire.Acquire.cancel.Goals.{in-Joined, in-NotPolled}
 
@@ -12,6 +12,6 @@ returns-clause-order g c = elim c.match-self.branch [
 
 pub returns-clause-whole : goal.returns-clause-whole
 returns-clause-whole g c = elim c.match-self.branch [
-  | in-Joined w ↦ StaysWhole-without_request c.args.sem.now c.match-self.sem w.in-Joined.slot (w.sem-is ∙ w.cancel.ensures.state)
+  | in-Joined w ↦ rw w.sem-is w.cancel.ensures.whole
   | in-NotPolled w ↦ StaysWhole-same c.args.sem.now c.match-self.sem w.sem-is
 ]

@@ -1,6 +1,9 @@
-use Rattle.std.proofs.Common.{ap}
+use Rattle.std.proofs.Common.{ap, ◌∙◌}
 use Rattle.band_sem.specs.Kept.Store.{line_of, state_of}
 use Rattle.band_sem.proofs.Laws.{KeepsOrder-cancels, LeavesOthers-cancels}
+use Rattle.band_sem.proofs.Like.{like_equal}
+use Rattle.band_sem.proofs.Whole.{StaysWhole-without_request}
+use Rattle.band_sem.specs.Semaphore.{without_request}
 use Rattle.band_sem.proofs.Lawful.{distinct_slots, lawful_when_sound}
 use Rattle.band_sem.proofs.semaphore.Semaphore.cancel.Goals as goal
 
@@ -16,3 +19,9 @@ returns-clause-others c =
 
 pub returns-clause-lawful : goal.returns-clause-lawful
 returns-clause-lawful c = lawful_when_sound _ c.cancel.ensures.sound
+
+pub returns-clause-state : goal.returns-clause-state
+returns-clause-state c = like_equal _ _ (c.cancel.ensures.state ∙ ap (without_request c.args.slot) c.self.view_is)
+
+pub returns-clause-whole : goal.returns-clause-whole
+returns-clause-whole c = StaysWhole-without_request c.args.self.now _ c.args.slot (c.cancel.ensures.state ∙ ap (without_request c.args.slot) c.self.view_is)

@@ -3,6 +3,7 @@ use Rattle.band_sem.specs.Semaphore.{given_back}
 use Rattle.band_sem.proofs.Whole.{StaysWhole-given_back}
 use Rattle.band_sem.specs.Kept.Store.{line_of}
 use Rattle.band_sem.proofs.Laws.{KeepsOrder-gives_back}
+use Rattle.band_sem.proofs.Like.{like_equal}
 use Rattle.band_sem.proofs.Lawful.{lawful_when_sound}
 use Rattle.band_sem.proofs.semaphore.Semaphore.drop_permit.Goals as goal
 
@@ -14,3 +15,6 @@ returns-clause-whole g c = StaysWhole-given_back c.args.self.now _ c.args.p.coun
 
 pub returns-clause-lawful : goal.returns-clause-lawful
 returns-clause-lawful g c = lawful_when_sound _ c.give_back.ensures.sound
+
+pub returns-clause-state : goal.returns-clause-state
+returns-clause-state g c = like_equal _ _ (c.give_back.ensures.state ∙ ap₂ given_back c.permits.ensures c.self.view_is)

@@ -1,5 +1,6 @@
 use Rattle.band_sem.specs.Kept.Store.{state_of}
 use Rattle.band_sem.proofs.Laws.{KeepsOrder-released}
+use Rattle.band_sem.proofs.Like.{like_equal}
 use Rattle.band_sem.proofs.Lawful.{lawful_when_sound}
 use Rattle.band_sem.proofs.Whole.{whole-released}
 use Rattle.band_sem.proofs.semaphore.Semaphore.release.Goals as goal
@@ -14,5 +15,11 @@ returns-clause-lawful g c = lawful_when_sound _ c.release.ensures.sound
 pub returns-clause-whole : goal.returns-clause-whole
 returns-clause-whole g c = elim c.if-release.branch [
   | then-release w ↦ rw w.result-is (rw (← c.self.view_is) (whole-released _ _ c.args.n (rw w.if-release.true at c.release.ensures.yes)))
+  | else-release w ↦ rw w.result-is tt
+]
+
+pub returns-clause-ok : goal.returns-clause-ok
+returns-clause-ok g c = elim c.if-release.branch [
+  | then-release w ↦ rw w.result-is (rw (← c.self.view_is) (like_equal _ _ (rw w.if-release.true at c.release.ensures.yes)))
   | else-release w ↦ rw w.result-is tt
 ]

@@ -1,0 +1,318 @@
+-- No rule looks at the order of those granted: of lines that are alike, a rule makes lines that are alike.
+use Rattle.std.proofs.Common.{◌≡◌, ℕ, zero, suc, ◌+◌, ◌-◌, nat_le, ◌≤◌, ◌<◌, Bool, true, false, cond, List, [], ◌∷◌, ◌++◌, map, length, set, get_or, Option, Some, None, refl, sym, ap, ◌∙◌, subst, arith}
+use Rattle.std.specs.List.{AllByRecursion, swap}
+use Rattle.std.specs.List.Sorted.{IsPermutation}
+use Rattle.std.proofs.lemmas.List.Edits.{swap_is}
+use Rattle.std.proofs.lemmas.List.Sorted.{IsPermutation-refl, IsPermutation-keeps, IsPermutation-sym, IsPermutation-cons, IsPermutation-swap, IsPermutation-trans, IsPermutation-append_left, IsPermutation-map, sum_by-IsPermutation}
+use Rattle.band_balance.specs.Line.{Entry, Waiting, Line, AreAlike, available, drained, is_served, entry_of, requests, total, settle, give_back, add_permits, take_permits, join, entry_named, without, poll_granted, poll_waiting, withdraw, cancel, rename, renamed}
+use Rattle.band_balance.specs.Object.{Object, Turn, Answer, Done, Ready, Pending, Nothing, Drained, Figures, Kind, Semaphore, Mutex, ReaderWriter, Permit, Read, Tag, tag, turn, hold, poll_of, drop_of, split_of, merge_of, downgrade_of}
+use Rattle.band_balance.specs.Rule.{Rule, Ask, Poll, Try, Drop, Release, Reduce, Drain, Forget, Split, Merge, Downgrade, Status, is, act}
+use Rattle.band_balance.specs.Laws.{Pairwise, IsOrderly, ObjectsAlike, TurnsAlike}
+use Rattle.band_balance.proofs.Held.{TellsApart}
+use Rattle.band_balance.proofs.Rename.{all_of_first}
+use Rattle.band_balance.proofs.Requests.{none-from_all, count_named, count_named-cons, count_named-none}
+use Rattle.band_balance.proofs.Settle.{settle_is, passed}
+
+-- What holds of a list and itself, goes on where one comes before both, where two neighbours change places, and from one step to the
+-- next, holds of a list and itself in any order.
+module _ {X : Type 0} (R : List X → List X → Type 0) (same : (xs : List X) → R xs xs) (comes : (x : X) (xs ys : List X) → R xs ys → R (x ∷ xs) (x ∷ ys))
+    (changes : (x y : X) (xs : List X) → R (x ∷ y ∷ xs) (y ∷ x ∷ xs)) (goes_on : (xs ys zs : List X) → R xs ys → R ys zs → R xs zs) where
+  first_changes : (x : X) (xs : List X) (j : ℕ) (d : X) → j < length xs → R (x ∷ xs) (get_or xs j d ∷ set xs j x)
+  first_changes x [] j d below = absurd (omega (arith, below))
+  first_changes x (y ∷ xs) zero d below = changes x y xs
+  first_changes x (y ∷ xs) (suc j) d below =
+      goes_on _ _ _ (changes x y xs)
+      (goes_on _ _ _ (comes y _ _ (first_changes x xs j d (omega (arith, below)))) (changes y (get_or xs j d) (set xs j x)))
+
+  two_change : (xs : List X) (i j : ℕ) (d : X) → i < length xs → j < length xs → R xs (set (set xs i (get_or xs j d)) j (get_or xs i d))
+  two_change [] i j d one other = absurd (omega (arith, one))
+  two_change (x ∷ xs) zero zero d one other = same (x ∷ xs)
+  two_change (x ∷ xs) zero (suc j) d one other = first_changes x xs j d (omega (arith, other))
+  two_change (x ∷ xs) (suc i) zero d one other = first_changes x xs i d (omega (arith, one))
+  two_change (x ∷ xs) (suc i) (suc j) d one other = comes x _ _ (two_change xs i j d (omega (arith, one)) (omega (arith, other)))
+
+  pub of_any_order : (xs ys : List X) → IsPermutation xs ys → R xs ys
+  of_any_order xs ys any = IsPermutation-keeps xs (R xs) (same xs) (λ l i j one other reached. goes_on xs l _ reached (moved l i j one other)) ys any
+    where
+      moved : (l : List X) (i j : ℕ) → i < length l → j < length l → R l (swap l i j)
+      moved [] i j one other = absurd (omega (arith, one))
+      moved (d ∷ l) i j one other = subst (R (d ∷ l)) (swap_is (d ∷ l) i j d one other) (two_change (d ∷ l) i j d one other)
+
+-- Who is found and who is left, where one entry at most is meant.
+module _ {N : Type 0} (is : N → Bool) where
+  pub record FindsTheSame (xs ys : List (Entry N)) : Type 0 where
+    pub all : IsPermutation xs ys
+    pub counted : count_named is ys ≡ count_named is xs
+    pub found : count_named is xs ≤ 1 → entry_named is ys ≡ entry_named is xs
+    pub left : count_named is xs ≤ 1 → IsPermutation (without is xs) (without is ys)
+
+  itself : (xs : List (Entry N)) → FindsTheSame xs xs
+  itself xs = record { all = IsPermutation-refl xs; counted = refl; found = λ once. refl; left = λ once. IsPermutation-refl (without is xs) }
+
+  one_before : (x : Entry N) (xs ys : List (Entry N)) → FindsTheSame xs ys → FindsTheSame (x ∷ xs) (x ∷ ys)
+  one_before x xs ys same = record {
+    all = IsPermutation-cons x xs ys same.all;
+    counted = count_named-cons is x ys ∙ ap (λ (n : ℕ). cond (is x.name) 1 0 + n) same.counted ∙ sym (count_named-cons is x xs);
+    found = λ once. finds (is x.name) (subst (λ (n : ℕ). n ≤ 1) (count_named-cons is x xs) once);
+    left = λ once. leaves (is x.name) (subst (λ (n : ℕ). n ≤ 1) (count_named-cons is x xs) once);
+  }
+    where
+      finds : (b : Bool) → cond b 1 0 + count_named is xs ≤ 1 → cond b (Some x) (entry_named is ys) ≡ cond b (Some x) (entry_named is xs)
+      finds true once = refl
+      finds false once = same.found (omega (arith, once))
+
+      leaves : (b : Bool) → cond b 1 0 + count_named is xs ≤ 1 → IsPermutation (cond b xs (x ∷ without is xs)) (cond b ys (x ∷ without is ys))
+      leaves true once = same.all
+      leaves false once = IsPermutation-cons x _ _ (same.left (omega (arith, once)))
+
+  neighbours : (x y : Entry N) (xs : List (Entry N)) → FindsTheSame (x ∷ y ∷ xs) (y ∷ x ∷ xs)
+  neighbours x y xs = record {
+    all = change_places xs;
+    counted = counts y x ∙ turned (cond (is x.name) 1 0) (cond (is y.name) 1 0) (count_named is xs) ∙ sym (counts x y);
+    found = λ once. finds (is x.name) (is y.name) (subst (λ (n : ℕ). n ≤ 1) (counts x y) once);
+    left = λ once. leaves (is x.name) (is y.name) (subst (λ (n : ℕ). n ≤ 1) (counts x y) once);
+  }
+    where
+      change_places : (zs : List (Entry N)) → IsPermutation (x ∷ y ∷ zs) (y ∷ x ∷ zs)
+      change_places zs = IsPermutation-swap (x ∷ y ∷ zs) (y ∷ x ∷ zs) 0 1 (omega arith) (omega arith) refl
+
+      counts : (one other : Entry N) → count_named is (one ∷ other ∷ xs) ≡ cond (is one.name) 1 0 + (cond (is other.name) 1 0 + count_named is xs)
+      counts one other = count_named-cons is one (other ∷ xs) ∙ ap (λ (n : ℕ). cond (is one.name) 1 0 + n) (count_named-cons is other xs)
+
+      turned : (a b c : ℕ) → b + (a + c) ≡ a + (b + c)
+      turned a b c = omega arith
+
+      finds : (b c : Bool) → cond b 1 0 + (cond c 1 0 + count_named is xs) ≤ 1 →
+          cond c (Some y) (cond b (Some x) (entry_named is xs)) ≡ cond b (Some x) (cond c (Some y) (entry_named is xs))
+      finds true true once = absurd (omega (arith, once))
+      finds true false once = refl
+      finds false c once = refl
+
+      leaves : (b c : Bool) → cond b 1 0 + (cond c 1 0 + count_named is xs) ≤ 1 →
+          IsPermutation (cond b (y ∷ xs) (x ∷ cond c xs (y ∷ without is xs))) (cond c (x ∷ xs) (y ∷ cond b xs (x ∷ without is xs)))
+      leaves true true once = absurd (omega (arith, once))
+      leaves true false once = IsPermutation-refl (y ∷ xs)
+      leaves false true once = IsPermutation-refl (x ∷ xs)
+      leaves false false once = change_places (without is xs)
+
+  then_the_same : (xs ys zs : List (Entry N)) → FindsTheSame xs ys → FindsTheSame ys zs → FindsTheSame xs zs
+  then_the_same xs ys zs one other = record {
+    all = IsPermutation-trans xs ys zs one.all other.all;
+    counted = other.counted ∙ one.counted;
+    found = λ once. other.found (rw one.counted once) ∙ one.found once;
+    left = λ once. IsPermutation-trans _ _ _ (one.left once) (other.left (rw one.counted once));
+  }
+
+  pub finds_the_same : (xs ys : List (Entry N)) → IsPermutation xs ys → FindsTheSame xs ys
+  finds_the_same = of_any_order FindsTheSame itself one_before neighbours then_the_same
+
+-- A line with those granted in another order.
+module _ {N : Type 0} where
+  pub alike_itself : (line : Line N) → AreAlike line line
+  alike_itself line = record { free = refl; waiting = refl; granted = IsPermutation-refl line.granted; wakes = refl }
+
+  pub alike_equal : (one other : Line N) → other ≡ one → AreAlike one other
+  alike_equal one other same = rw same (alike_itself one)
+
+  pub alike_then : (one mid other : Line N) → AreAlike one mid → AreAlike mid other → AreAlike one other
+  alike_then one mid other h k = record {
+    free = k.free ∙ h.free;
+    waiting = k.waiting ∙ h.waiting;
+    granted = IsPermutation-trans _ _ _ h.granted k.granted;
+    wakes = k.wakes ∙ h.wakes;
+  }
+
+  abbrev pub with_granted : Line N → List (Entry N) → Line N
+  with_granted line granted = record line { granted = granted }
+
+  -- a line that is alike is the line with its own granted ones
+  pub alike_is : (one other : Line N) → AreAlike one other → with_granted one other.granted ≡ other
+  alike_is one other h = λ i. record { free = sym h.free i; waiting = sym h.waiting i; granted = other.granted; wakes = sym h.wakes i }
+
+  pub alike_back : (one other : Line N) → AreAlike one other → AreAlike other one
+  alike_back one other h = record { free = sym h.free; waiting = sym h.waiting; granted = IsPermutation-sym _ _ h.granted; wakes = sym h.wakes }
+
+  pub total-alike : (one other : Line N) → AreAlike one other → total other.granted ≡ total one.granted
+  total-alike one other h = sum_by-IsPermutation (λ (e : Entry N). e.size) one.granted other.granted h.granted
+
+  pub requests-alike : (one other : Line N) → AreAlike one other → IsPermutation (requests one) (requests other)
+  requests-alike one other h =
+      subst (λ (ws : List (Waiting N)). IsPermutation (requests one) (other.granted ++ map entry_of ws)) (sym h.waiting)
+      (IsPermutation-append_left (map entry_of one.waiting) one.granted other.granted h.granted)
+
+  module _ (line : Line N) (granted : List (Entry N)) (any : IsPermutation line.granted granted) where
+    reordered : AreAlike line (with_granted line granted)
+    reordered = record { free = refl; waiting = refl; granted = any; wakes = refl }
+
+    settle-reordered : AreAlike (settle line) (settle (with_granted line granted))
+    settle-reordered = rw (settle_is line, settle_is (with_granted line granted)) (record {
+      free = refl;
+      waiting = refl;
+      granted = IsPermutation-append_left (map entry_of (passed line.free line.waiting)) line.granted granted any;
+      wakes = refl;
+    })
+
+  pub settle-alike : (one other : Line N) → AreAlike one other → AreAlike (settle one) (settle other)
+  settle-alike one other h = subst (λ (l : Line N). AreAlike (settle one) (settle l)) (alike_is one other h) (settle-reordered one other.granted h.granted)
+
+  pub add_permits-alike : (n : ℕ) (one other : Line N) → AreAlike one other → AreAlike (add_permits n one) (add_permits n other)
+  add_permits-alike n one other h = record { free = rw h.free refl; waiting = h.waiting; granted = h.granted; wakes = h.wakes }
+
+  pub take_permits-alike : (n : ℕ) (one other : Line N) → AreAlike one other → AreAlike (take_permits n one) (take_permits n other)
+  take_permits-alike n one other h = record { free = rw h.free refl; waiting = h.waiting; granted = h.granted; wakes = h.wakes }
+
+  pub give_back-alike : (n : ℕ) (one other : Line N) → AreAlike one other → AreAlike (give_back n one) (give_back n other)
+  give_back-alike n one other h = settle-alike (add_permits n one) (add_permits n other) (add_permits-alike n one other h)
+
+  pub join-alike : (name : N) (size waker : ℕ) (one other : Line N) → AreAlike one other → AreAlike (join name size waker one) (join name size waker other)
+  join-alike name size waker one other h = record { free = h.free; waiting = rw h.waiting refl; granted = h.granted; wakes = h.wakes }
+
+  -- where a test means one at most of those granted
+  module _ (is : N → Bool) (one other : Line N) (h : AreAlike one other) (once : count_named is one.granted ≤ 1) where
+    same_granted : FindsTheSame is one.granted other.granted
+    same_granted = finds_the_same is one.granted other.granted h.granted
+
+    pub granted-alike : entry_named is other.granted ≡ entry_named is one.granted
+    granted-alike = same_granted.found once
+
+    pub poll_granted-alike : AreAlike (poll_granted is one) (poll_granted is other)
+    poll_granted-alike = record { free = h.free; waiting = h.waiting; granted = same_granted.left once; wakes = h.wakes }
+
+    withdraw-alike : (found : Option (Entry N)) → AreAlike (withdraw found is one) (withdraw found is other)
+    withdraw-alike (Some entry) = add_permits-alike entry.size _ _ poll_granted-alike
+    withdraw-alike None = record { free = h.free; waiting = rw h.waiting refl; granted = h.granted; wakes = h.wakes }
+
+    pub cancel-alike : AreAlike (cancel is one) (cancel is other)
+    cancel-alike =
+        subst (λ (found : Option (Entry N)). AreAlike (cancel is one) (settle (withdraw found is other))) (sym granted-alike)
+        (settle-alike _ _ (withdraw-alike (entry_named is one.granted)))
+
+  pub poll_waiting-alike : (is : N → Bool) (waker : ℕ) (one other : Line N) → AreAlike one other → AreAlike (poll_waiting is waker one) (poll_waiting is waker other)
+  poll_waiting-alike is waker one other h = record { free = h.free; waiting = rw h.waiting refl; granted = h.granted; wakes = h.wakes }
+
+-- under other names
+pub rename-alike : {M N : Type 0} (f : M → N) (one other : Line M) → AreAlike one other → AreAlike (rename f one) (rename f other)
+rename-alike f one other h = record {
+  free = h.free;
+  waiting = rw h.waiting refl;
+  granted = IsPermutation-map (renamed f) one.granted other.granted h.granted;
+  wakes = h.wakes;
+}
+
+-- what holds pairwise, whichever comes first, holds so in any order
+pub pairwise-order : {X : Type 0} (R : X → X → Type 0) → ((x y : X) → R x y → R y x) → (xs ys : List X) → IsPermutation xs ys → Pairwise R xs → Pairwise R ys
+pairwise-order {X} R turns xs ys any = (of_any_order Kept itself one_before neighbours then_kept xs ys any).1
+  where
+    Kept : List X → List X → Type 0
+    Kept one other = ((x : X) → AllByRecursion (R x) one → AllByRecursion (R x) other) × (Pairwise R one → Pairwise R other)
+
+    itself : (one : List X) → Kept one one
+    itself one = ((λ x each. each), (λ each. each))
+
+    one_before : (x : X) (one other : List X) → Kept one other → Kept (x ∷ one) (x ∷ other)
+    one_before x one other kept = ((λ y each. (each.0, kept.0 y each.1)), (λ each. (kept.0 x each.0, kept.1 each.1)))
+
+    neighbours : (x y : X) (one : List X) → Kept (x ∷ y ∷ one) (y ∷ x ∷ one)
+    neighbours x y one = ((λ z each. (each.1.0, (each.0, each.1.1))), (λ each. ((turns x y each.0.0, each.1.0), (each.0.1, each.1.1))))
+
+    then_kept : (one mid other : List X) → Kept one mid → Kept mid other → Kept one other
+    then_kept one mid other first second = ((λ x each. second.0 x (first.0 x each)), (λ each. second.1 (first.1 each)))
+
+-- of a list in which it holds pairwise, it holds so of a front
+pub pairwise_front : {X : Type 0} (R : X → X → Type 0) (xs ys : List X) → Pairwise R (xs ++ ys) → Pairwise R xs
+pairwise_front R [] ys each = tt
+pairwise_front R (x ∷ xs) ys each = (all_of_first (R x) xs ys each.0, pairwise_front R xs ys each.1)
+
+module _ {K : Type 0} (same : K → K → Bool) (told : TellsApart same) where
+  -- a name stands once at most where all names differ
+  pub named_once : (name : K) (es : List (Entry (Tag K))) → Pairwise (λ (a b : Entry (Tag K)). same a.name.name b.name.name ≡ false) es → count_named (is same name) es ≤ 1
+  named_once name [] each = omega arith
+  named_once name (e ∷ es) each = go (same name e.name.name) refl (named_once name es each.1)
+    where
+      counts : count_named (is same name) (e ∷ es) ≡ cond (same name e.name.name) 1 0 + count_named (is same name) es
+      counts = count_named-cons (is same name) e es
+
+      go : (b : Bool) → same name e.name.name ≡ b → count_named (is same name) es ≤ 1 → count_named (is same name) (e ∷ es) ≤ 1
+      go true it rest =
+          let none : count_named (is same name) es ≡ 0 =
+          count_named-none (is same name) es (none-from_all (is same name) es
+          (subst (λ (n : K). AllByRecursion (λ (later : Entry (Tag K)). same n later.name.name ≡ false) es) (sym (told.equal name e.name.name it)) each.0)) in
+          let all = counts ∙ ap (λ (b : Bool). cond b 1 0 + count_named (is same name) es) it in
+          omega (arith, none, all)
+      go false other rest =
+          let all = counts ∙ ap (λ (b : Bool). cond b 1 0 + count_named (is same name) es) other in
+          omega (arith, all, rest)
+
+  module _ (object : Object (Tag K)) (orderly : IsOrderly same object) (granted : List (Entry (Tag K))) (any : IsPermutation object.line.granted granted) where
+    -- the same object with those granted in another order
+    abbrev Shuffled : Object (Tag K)
+    Shuffled = record object { line = with_granted object.line granted }
+
+    alike : AreAlike object.line (with_granted object.line granted)
+    alike = reordered object.line granted any
+
+    once : (name : K) → count_named (is same name) object.line.granted ≤ 1
+    once name = named_once name object.line.granted (pairwise_front _ object.line.granted (map entry_of object.line.waiting) orderly.once)
+
+    found : (name : K) → entry_named (is same name) granted ≡ entry_named (is same name) object.line.granted
+    found name = granted-alike (is same name) object.line (with_granted object.line granted) alike (once name)
+
+    turned : (answer : Answer) (one other : Line (Tag K)) (held : List (Entry (Tag K))) → AreAlike one other
+        → TurnsAlike (turn answer (record object { line = one; held = held })) (turn answer (record object { line = other; held = held }))
+    turned answer one other held h = record {
+      answer = refl;
+      woken = h.wakes;
+      object = record { kind = refl; line = record { free = h.free; waiting = h.waiting; granted = h.granted; wakes = refl }; held = refl };
+    }
+
+    either : (b : Bool) {one one' other other' : Turn (Tag K)} → TurnsAlike one one' → TurnsAlike other other' → TurnsAlike (cond b one other) (cond b one' other')
+    either true first second = first
+    either false first second = second
+
+    polled : (name : K) (waker : ℕ) (it : Option (Entry (Tag K))) → TurnsAlike (poll_of it (is same name) waker object) (poll_of it (is same name) waker Shuffled)
+    polled name waker (Some entry) = turned Ready _ _ (object.held ++ entry ∷ []) (poll_granted-alike (is same name) _ _ alike (once name))
+    polled name waker None = turned Pending _ _ object.held (poll_waiting-alike (is same name) waker _ _ alike)
+
+    dropped : (name : K) (it : Option (Entry (Tag K))) → TurnsAlike (drop_of it (is same name) object) (drop_of it (is same name) Shuffled)
+    dropped name (Some entry) = turned Done _ _ (without (is same name) object.held) (give_back-alike entry.size _ _ alike)
+    dropped name None = turned Done _ _ object.held (cancel-alike (is same name) _ _ alike (once name))
+
+    split_alike : (it : Option (Entry (Tag K))) (name : K) (made : Tag K) (n : ℕ) → TurnsAlike (split_of it (is same name) made n object) (split_of it (is same name) made n Shuffled)
+    split_alike (Some entry) name made n = either (nat_le n entry.size) (turned Done _ _ _ alike) (turned Nothing _ _ object.held alike)
+    split_alike None name made n = turned Nothing _ _ object.held alike
+
+    merge_alike : (one other : Option (Entry (Tag K))) (kept spent : K) → TurnsAlike (merge_of one other (is same kept) (is same spent) object) (merge_of one other (is same kept) (is same spent) Shuffled)
+    merge_alike (Some one) (Some other) kept spent = turned Done _ _ _ alike
+    merge_alike None other kept spent = turned Nothing _ _ object.held alike
+    merge_alike (Some one) None kept spent = turned Nothing _ _ object.held alike
+
+    downgrade_alike : (kind : Kind) (it : Option (Entry (Tag K))) (name : K) → TurnsAlike (downgrade_of kind it (is same name) (tag Read name) object) (downgrade_of kind it (is same name) (tag Read name) Shuffled)
+    downgrade_alike (ReaderWriter max) (Some writer) name = turned Done _ _ _ (give_back-alike (max - 1) _ _ alike)
+    downgrade_alike (ReaderWriter max) None name = turned Nothing _ _ object.held alike
+    downgrade_alike Semaphore it name = turned Nothing _ _ object.held alike
+    downgrade_alike Mutex it name = turned Nothing _ _ object.held alike
+
+    act-shuffled : (rule : Rule K) → TurnsAlike (act same rule object) (act same rule Shuffled)
+    act-shuffled (Ask made size waker) =
+        either (is_served size object.line) (turned Ready _ _ (hold made size object.held) (take_permits-alike size _ _ alike)) (turned Pending _ _ object.held (join-alike made size waker _ _ alike))
+    act-shuffled (Poll name waker) =
+        subst (λ (it : Option (Entry (Tag K))). TurnsAlike (act same (Poll name waker) object) (poll_of it (is same name) waker Shuffled)) (sym (found name))
+        (polled name waker (entry_named (is same name) object.line.granted))
+    act-shuffled (Try made size) =
+        either (is_served size object.line) (turned Done _ _ (hold made size object.held) (take_permits-alike size _ _ alike)) (turned Nothing _ _ object.held alike)
+    act-shuffled (Drop name) = dropped name (entry_named (is same name) object.held)
+    act-shuffled (Release n) = turned Done _ _ object.held (give_back-alike n _ _ alike)
+    act-shuffled (Reduce n) = turned Done _ _ object.held (take_permits-alike n _ _ alike)
+    act-shuffled (Drain n) = turned (Drained (drained n object.line)) _ _ object.held (take_permits-alike (drained n object.line) _ _ alike)
+    act-shuffled (Forget permit) = turned Done _ _ (without (is same permit) object.held) alike
+    act-shuffled (Split permit made n) = split_alike (entry_named (is same permit) object.held) permit (tag Permit made) n
+    act-shuffled (Merge kept spent) = merge_alike (entry_named (is same kept) object.held) (entry_named (is same spent) object.held) kept spent
+    act-shuffled (Downgrade writer) = downgrade_alike object.kind (entry_named (is same writer) object.held) writer
+    act-shuffled Status = subst (λ (n : ℕ). TurnsAlike (act same Status object) (turn (Figures (available object.line) object.line.free (length object.line.waiting) n (total object.held)) Shuffled))
+        (sym (total-alike _ _ alike)) (turned _ _ _ object.held alike)
+
+  pub act-alike : (rule : Rule K) (one other : Object (Tag K)) → IsOrderly same one → ObjectsAlike one other → TurnsAlike (act same rule one) (act same rule other)
+  act-alike rule one other orderly h =
+      subst (λ (object : Object (Tag K)). TurnsAlike (act same rule one) (act same rule object))
+      (λ i. record { kind = sym h.kind i; line = alike_is one.line other.line h.line i; held = sym h.held i })
+      (act-shuffled one orderly other.line.granted h.line.granted rule)

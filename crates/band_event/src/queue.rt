@@ -1,0 +1,164 @@
+//! Who waits for an event, in line or called.
+ghost use Rattle.std.specs.Prelude.{◌≡◌, ◌+◌, length, [], false, Some, IsSome, IfOk, IsTrue};
+ghost use Rattle.band_line.specs.Arena.{KeepsOthers};
+ghost use Rattle.band_line.specs.WaitList.{waiter_at, first_waiter, IsUnlinked, IsWaitList};
+ghost use Rattle.band_event.specs.Event.{IsQueue, new_queue, place_at, called, all_called, without, is_called, StayHere, TakesWake};
+ghost use Rattle.band_event.specs.Kept.Queue.{CallsFirst, JoinsQueue, PollsPlace};
+
+use crate::place::Place;
+use band_base::{Steps, WakeLine, Waker};
+use band_line::{WaitList, WaiterId};
+use std::alloc::{AllocError, Global};
+use std::marker::Model;
+use std::mem;
+use std::sync::ledger::Ledger;
+
+/// The waits of an event, and the wakers to wake, with room for the wake of each that is in line.
+#[derive(Drop)]
+pub(crate) struct Queue {
+    list: WaitList<Place>,
+    waiting: u64,
+    wakes: WakeLine,
+}
+
+impl Model for Queue {
+    ghost use Rattle.band_event.specs.Event.{QueueState};
+    ghost use Rattle.band_event.specs.Kept.Queue.{IsKept};
+
+    ghost Value = { QueueState };
+
+    ghost view = { λ q. record { line = q.list; wakes = q.wakes.wakers } };
+
+    ghost invariant = { λ q.
+        IsKept (record { line = q.list; wakes = q.wakes.wakers }) q.waiting q.wakes.spare };
+}
+
+impl Queue {
+    /// Nobody waits.
+    pub(crate) fn new(alloc: Global) -> Queue
+        ensures { result ≡ new_queue }
+    {
+        Queue {
+            list: WaitList::new(alloc),
+            waiting: 0,
+            wakes: WakeLine::new(alloc),
+        }
+    }
+
+    /// Does nothing: a caller that changes nothing learns who is queued.
+    pub(crate) fn touch(&self)
+        ensures { IsQueue self.now }
+    {
+        let _ = &self.list;
+    }
+
+    /// Calls the first in line, and tells whether there was one.
+    pub(crate) fn call_first<L: Ledger>(&mut self, steps: &mut Steps<L>) -> bool
+        ensures calls { CallsFirst (first_waiter self.old.line) self.old result self.new }
+        ensures queued { IsQueue self.new }
+        ensures stay { StayHere self.old self.new }
+        ensures all { all_called self.new ≡ all_called self.old }
+        ensures empty { result ≡ false → self.new.line.linked ≡ [] }
+        ensures fewer { IsTrue result → length self.new.line.linked + 1 ≡ length self.old.line.linked }
+    {
+        let Some(first) = self.list.first() else {
+            return false;
+        };
+        match call(&mut self.list, first, steps) {
+            Place::Queued(waker) => {
+                self.waiting -= 1;
+                self.wakes.push(waker);
+                true
+            }
+            Place::Called => unreachable!(),
+        }
+    }
+
+    /// Calls all in line, in its order.
+    pub(crate) fn call_all<L: Ledger>(&mut self, steps: &mut Steps<L>)
+        ensures calls { self.new ≡ all_called self.old }
+        ensures stay { StayHere self.old self.new }
+        ensures queued { IsQueue self.new }
+    {
+        while self.call_first(steps) {}
+    }
+
+    /// Puts a wait at the end of the line.
+    pub(crate) fn join<L: Ledger>(
+        &mut self,
+        waker: Waker,
+        steps: &mut Steps<L>,
+    ) -> Result<WaiterId, AllocError>
+        ensures joins { JoinsQueue waker self.old result self.new }
+        ensures here { IfOk result (λ slot. IsSome (place_at slot self.new)) }
+        ensures others { IfOk result (λ slot. KeepsOthers slot self.old.line.nodes self.new.line.nodes) }
+        ensures queued { IsQueue self.new }
+    {
+        match self.waiting.checked_add(1) {
+            Some(wanted) => self.wakes.reserve(wanted)?,
+            None => return Err(AllocError),
+        }
+        self.list.reserve(1)?;
+        self.waiting += 1;
+        Ok(self.list.push_back(Place::Queued(waker), steps))
+    }
+
+    /// Tells whether a wait was called, which is gone then. Else it leaves a waker.
+    pub(crate) fn poll<L: Ledger>(
+        &mut self,
+        id: WaiterId,
+        waker: Waker,
+        steps: &mut Steps<L>,
+    ) -> bool
+        requires { IsSome (place_at id self.old) }
+        ensures polls { PollsPlace (place_at id self.old) id waker self.old result self.new }
+        ensures others { KeepsOthers id self.old.line.nodes self.new.line.nodes }
+        ensures queued { IsQueue self.new }
+    {
+        let was_called = self.list.waiter_mut(id, steps).leave(waker);
+        if was_called {
+            self.list.remove_unlinked_waiter(id, steps);
+        }
+        was_called
+    }
+
+    /// Takes a wait out, and tells whether it had been called.
+    pub(crate) fn cancel<L: Ledger>(&mut self, id: WaiterId, steps: &mut Steps<L>) -> bool
+        requires { IsSome (place_at id self.old) }
+        ensures answer { result ≡ is_called (place_at id self.old) }
+        ensures state { self.new ≡ without id self.old }
+        ensures others { KeepsOthers id self.old.line.nodes self.new.line.nodes }
+        ensures queued { IsQueue self.new }
+    {
+        let place = call(&mut self.list, id, steps);
+        self.list.remove_unlinked_waiter(id, steps);
+        match place {
+            Place::Queued(_) => {
+                self.waiting -= 1;
+                false
+            }
+            Place::Called => true,
+        }
+    }
+
+    /// Takes the oldest waker to wake, if there is one.
+    pub(crate) fn take_wake(&mut self) -> Option<Waker>
+        ensures woken { TakesWake self.old result self.new }
+        ensures queued { IsQueue self.new }
+    {
+        self.wakes.take_wake()
+    }
+}
+
+/// A wait is called and in line no more. The answer is what it was.
+fn call<L: Ledger>(list: &mut WaitList<Place>, id: WaiterId, steps: &mut Steps<L>) -> Place
+    requires { IsSome (waiter_at id list.old) }
+    ensures was { waiter_at id list.old ≡ Some result }
+    ensures state { IsUnlinked id Place.Called list.old list.new }
+    ensures sound { IsWaitList list.old }
+{
+    match list.unlink_waiter(id, |_| true, steps) {
+        Some(place) => mem::replace(place, Place::Called),
+        None => unreachable!(),
+    }
+}

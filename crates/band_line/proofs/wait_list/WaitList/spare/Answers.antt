@@ -1,0 +1,9 @@
+use Rattle.band_line.proofs.SoundArena.{sound_empty}
+use Rattle.band_line.proofs.WaitListLemmas.{nobody_linked}
+use Rattle.band_line.proofs.wait_list.WaitList.spare.Goals as goal
+
+pub returns-in-None-clause-sound : goal.returns-in-None-clause-sound
+returns-in-None-clause-sound g c = rw (← c.self.view_is, c.in-None.is) nobody_linked
+
+pub returns-in-None-clause-nodes : goal.returns-in-None-clause-nodes
+returns-in-None-clause-nodes g c = rw (← c.self.view_is, c.in-None.is) sound_empty

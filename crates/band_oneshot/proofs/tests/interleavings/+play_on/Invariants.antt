@@ -1,0 +1,4 @@
+use Rattle.band_oneshot.proofs.tests.interleavings.+play_on.Given as goal
+
+abbrev pub decreases-play_on : goal.decreases-play_on
+decreases-play_on g l = l.further

@@ -1,0 +1,6 @@
+mod Nodes
+mod Distributes
+mod Follows
+mod Fronts
+mod Steps
+mod Order

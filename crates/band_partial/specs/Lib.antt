@@ -1,0 +1,3 @@
+pub mod PartialLine
+pub mod Moves
+pub mod Rows

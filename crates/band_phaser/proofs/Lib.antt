@@ -1,0 +1,3 @@
+mod Parties
+mod Standing
+mod Turns

@@ -1,4 +1,0 @@
-use Rattle.band_play.proofs.object.Object.new_semaphore.Goals as goal
-
-pub returns-clause-steady : goal.returns-clause-steady
-returns-clause-steady c = (c.new.ensures.lawful, tt)

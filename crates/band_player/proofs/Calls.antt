@@ -1,0 +1,584 @@
+-- What each call comes to in a state that the table stands for, by what the names and the objects say.
+use Rattle.std.proofs.Common.{◌≡◌, ℕ, ◌+◌, ◌-◌, ◌<◌, ◌≤◌, ◌==◌, Bool, true, false, not, cond, List, [], map, length, Option, Some, None, IsSome, Result, Ok, Err, ℤ, pos, ◌+ℤ◌, int_lt, refl, sym, ap, ap₂, ◌∙◌, subst, eqb-true, eq-eqb}
+use Rattle.std.specs.List.{slice_get, slice_set}
+use Rattle.std.specs.Str.{bytes_eq}
+use Rattle.std.proofs.lemmas.Bool.{cond-true, cond-false, cond_both, true≢false, le-leb, lt-leb}
+use Rattle.std.proofs.lemmas.List.{length-map}
+use Rattle.std.proofs.lemmas.Option.{same_Some}
+use Rattle.band_base.specs.declared.poll.Poll.{Poll}
+use Rattle.band_base.specs.declared.poll.Poll.TheVariants as polls
+use Rattle.band_base.specs.declared.poll.PollError.{PollError}
+use Rattle.band_base.specs.declared.refusal.Refusal.{Refusal}
+use Rattle.band_base.specs.declared.refusal.Refusal.TheVariants as refusals
+use Rattle.band_balance.specs.Line.{Line, AreAlike, requests, total, rename, renamed_waiting, u64_max, is_served, take_permits, give_back, drained, overflows, owes_too_much, available}
+use Rattle.band_balance.specs.Object.{Object, Kind, Mode, Permit, Read, Write, Answer, Done, Ready, Pending, Nothing, Drained, Figures, Turn, size_of, tag, turn, hold, drop_of, split_of, would_overflow, would_owe_too_much}
+use Rattle.band_balance.specs.Rule.{Rule, Fits, act}
+use Rattle.band_balance.specs.Rule.{is as is_tag}
+use Rattle.band_balance.specs.Rule as rules
+use Rattle.band_balance.proofs.Alike.{with_granted, total-alike, take_permits-alike}
+use Rattle.band_balance.proofs.Held.{other_way}
+use Rattle.band_balance.proofs.Rename.{is_served-rename, available-rename, drained-rename, total-renamed}
+use Rattle.band_balance.proofs.Requests.{requests-give_back}
+use Rattle.band_balance.proofs.Rules.{bytes_told}
+use Rattle.band_balance.proofs.Turns.{write_of}
+use Rattle.band_rules.specs.declared.reply.Reply.{Reply}
+use Rattle.band_rules.specs.declared.reply.Reply.TheVariants as replies
+use Rattle.band_rules.specs.Plan.{Plan, Refuse, Act, ◌>>=◌, object_of, object_for, asked_object, owner, lender, if_live, refuse_if, asking, trying, plan}
+use Rattle.band_rules.specs.State.{State, Named, Tag, standing}
+use Rattle.band_rules.specs.Step.{reply_of, step}
+use Rattle.band_script.specs.declared.call.Call.{Call}
+use Rattle.band_script.specs.declared.call.Call.TheVariants as calls
+use Rattle.band_sem.specs.Request.{NotPolled, Joined}
+use Rattle.band_sem.specs.Semaphore.{taken, given_back, released, reduced, joined, received, forgotten, with_waker, without_request, LaterPoll, PollsAt}
+use Rattle.band_player.specs.Kept.{wakes_left, StandsFor, FollowsFrom, DidWork}
+use Rattle.band_player.specs.Moves.{object_place, offering, held_as, mode_of, size_for, kind_at, ask_call, try_call, PollsAs, IsAnswered, PollsThing, PollsName, AsksName, SplitsTo, Grows, Downgrades, FitsHolding, mergeable, mergeable_held, downgraded, DropsThing, permit_answer, GivesIn, cancelled_at}
+use Rattle.band_player.specs.Names.{thing_at, Updated, is_object}
+use Rattle.band_player.specs.Objects.{ObjectState, RequestState, HoldingState, IsLikeObject, IsSteady, of_kind, shares_of, on_semaphore, in_mode, asked_of, held_in}
+use Rattle.band_player.specs.Table.{HasSlot}
+use Rattle.band_player.specs.Thing.{Thing, place_at}
+use Rattle.band_player.specs.Thing as things
+use Rattle.band_player.specs.declared.object.Want.{Want}
+use Rattle.band_player.specs.declared.object.Want.TheVariants as wants
+use Rattle.band_player.specs.declared.table.Table.{Table}
+use Rattle.band_player.proofs.Acting.{IsOf, Touched, same, touched_one, touched_twice, updated_same}
+use Rattle.band_player.proofs.Fitting.{fits_at}
+use Rattle.band_player.proofs.Follow.{Target, target, absent, standing_as, refused, shows, acted, works}
+use Rattle.band_player.proofs.Landing.{line_is, line_as, given_back_is, steady_before, lands_like, takes, joining, joins, stays, slot_of, receives, rewakes, ends, lets_go, held_there, splits, merges, lowers}
+use Rattle.band_player.proofs.Lists.{set_itself}
+use Rattle.band_player.proofs.Lookups.{plain_found, object_refused, held_refused, FoundAs, place_held, refuses, held_found, apart_by_place, is_live, taken_name, held_by, Live, live, standing_live, object_there, unused}
+use Rattle.band_player.proofs.Named.{can_merge, two_names, held_from, object_from, same_holding}
+
+-- what asks for something of an object, and what tries
+pub plan_asks : (want : Want) (made of : List ℕ) (waker : ℕ) (state : State) → plan (ask_call want made of waker) state ≡ asking (mode_of want) (size_for want) made of waker state
+plan_asks (wants.Permits n) made of waker state = refl
+plan_asks wants.Lock made of waker state = refl
+plan_asks wants.Read made of waker state = refl
+plan_asks wants.Write made of waker state = refl
+
+pub plan_tries : (want : Want) (made of : List ℕ) (state : State) → plan (try_call want made of) state ≡ trying (mode_of want) (size_for want) made of state
+plan_tries (wants.Permits n) made of state = refl
+plan_tries wants.Lock made of state = refl
+plan_tries wants.Read made of state = refl
+plan_tries wants.Write made of state = refl
+
+pub same_figures : (a a' : ℕ) (f f' : ℤ) (w w' g g' h h' : ℕ) → a ≡ a' → f ≡ f' → w ≡ w' → g ≡ g' → h ≡ h' → replies.Figures a f w g h ≡ replies.Figures a' f' w' g' h'
+same_figures a a' f f' w w' g g' h h' e1 e2 e3 e4 e5 = cc
+
+kind_there : (kept : List ObjectState) (place : ℕ) (object : ObjectState) (kind : Kind) → slice_get kept place ≡ Some object → kind_at (slice_get kept place) ≡ Some kind → kind ≡ object.kind
+kind_there kept place object kind there is = same_Some kind object.kind (sym is ∙ ap kind_at there)
+
+module _ (old : Table) (none : wakes_left old ≡ []) (state : State) (stands : StandsFor old state) (new : Table) where
+  abbrev table : List ℕ → Option Thing
+  table = thing_at old.names
+
+  abbrev table' : List ℕ → Option Thing
+  table' = thing_at new.names
+
+  abbrev kept : List ObjectState
+  kept = old.objects.items
+
+  module _ (want : Want) (made of : List ℕ) (place : ℕ) (is : offering (mode_of want) kept (object_place (table of)) ≡ Ok place) (free : table made ≡ None)
+      (object : ObjectState) (there : slice_get kept place ≡ Some object) where
+    abbrev it : Target old none state stands place object
+    it = target old none state stands place object there
+
+    -- what is served of the one kept is served of the one that it stands for
+    served_too : (n : ℕ) → is_served n it.named.object.line ≡ is_served n object.line
+    served_too n =
+        ap (is_served n) (line_as it.spot)
+        ∙ is_served-rename (stands.tags place) n object.line
+
+    asks : (waker : ℕ) (n : ℕ) → n ≡ size_for want object.kind → plan (ask_call want made of waker) state ≡ Act it.named (rules.Ask (tag (mode_of want) made) n waker)
+    asks waker n size =
+        plan_asks want made of waker state
+        ∙ ap₂ (λ one unused. one >>= λ named. unused >>= λ found. Act named (rules.Ask (tag (mode_of want) made) (size_for want named.object.kind) waker))
+        (object_there old none state stands (mode_of want) of place it.named is it.there) (unused old none state stands made free)
+        ∙ ap (λ m. Act it.named (rules.Ask (tag (mode_of want) made) m waker)) (ap (size_for want) it.spot.at.kind ∙ sym size)
+
+    tries : (n : ℕ) → n ≡ size_for want object.kind → plan (try_call want made of) state ≡ Act it.named (rules.Try (tag (mode_of want) made) n)
+    tries n size =
+        plan_tries want made of state
+        ∙ ap₂ (λ one unused. one >>= λ named. unused >>= λ found. Act named (rules.Try (tag (mode_of want) made) (size_for want named.object.kind)))
+        (object_there old none state stands (mode_of want) of place it.named is it.there) (unused old none state stands made free)
+        ∙ ap (λ m. Act it.named (rules.Try (tag (mode_of want) made) m)) (ap (size_for want) it.spot.at.kind ∙ sym size)
+
+    -- n are had at once, under the new name
+    had : (n : ℕ) (object' : ObjectState) (thing : Thing) (call : Call) (rule : Rule (List ℕ)) (answer : Answer) (reply : Reply) → plan call state ≡ Act it.named rule
+        → act bytes_eq rule it.named.object ≡ turn answer (record it.named.object { line = take_permits n it.named.object.line; held = hold (tag (mode_of want) made) n it.named.object.held })
+        → object' ≡ on_semaphore (taken n) object → IsSteady object' → thing ≡ things.Holding (record { mode = mode_of want; of = place; count = n }) → Updated table table' made (Some thing)
+        → new.objects.items ≡ slice_set kept place object' → new.last ≡ place → reply ≡ reply_of answer → FollowsFrom call reply new state
+    had n object' thing call rule answer reply planned turns object_is steady thing_is updated items last replied =
+        acted old none state stands call rule answer reply new place object (on_semaphore (taken n) object) (stands.tags place) it there planned
+        (takes it.spot (tag (mode_of want) made) n table' free
+        (subst (λ t. Updated table table' made (Some t)) thing_is updated) (subst (λ (o : ObjectState). IsSteady o) object_is steady) rule answer turns)
+        (touched_one place table table' made (Some thing) updated (subst (IsOf place) (sym free) tt) (subst (λ t. IsOf place (Some t)) (sym thing_is) refl))
+        (items ∙ ap (slice_set kept place) object_is) last replied
+
+    pub tried : (n : ℕ) (object' : ObjectState) → n ≡ size_for want object.kind → is_served n object.line ≡ true → object' ≡ on_semaphore (taken n) object → IsSteady object'
+        → Updated table table' made (Some (things.Holding (record { mode = mode_of want; of = place; count = n }))) → new.objects.items ≡ slice_set kept place object' → new.last ≡ place
+        → FollowsFrom (try_call want made of) replies.Done new state
+    tried n object' size served object_is steady updated items last =
+        had n object' (things.Holding (record { mode = mode_of want; of = place; count = n })) (try_call want made of) (rules.Try (tag (mode_of want) made) n) Done replies.Done (tries n size)
+        (cond-true _ _ _ (served_too n ∙ served)) object_is steady refl updated items last refl
+
+    pub works_try : (n : ℕ) → n ≡ size_for want object.kind → is_served n object.line ≡ true → DidWork (step (try_call want made of) state).reply
+    works_try n size served =
+        works old none state stands (try_call want made of) (rules.Try (tag (mode_of want) made) n) it.named (tries n size)
+        (subst (λ (t : Turn Tag). DidWork (reply_of t.answer)) (sym (cond-true _ _ _ (served_too n ∙ served))) tt)
+
+    pub works_ask : (waker : ℕ) → DidWork (step (ask_call want made of waker) state).reply
+    works_ask waker =
+        works old none state stands (ask_call want made of waker) (rules.Ask (tag (mode_of want) made) (size_for want object.kind) waker) it.named (asks waker (size_for want object.kind) refl)
+        (cond_both (is_served (size_for want object.kind) it.named.object.line) _ _ (λ (t : Turn Tag). DidWork (reply_of t.answer)) (λ h. tt) (λ h. tt))
+
+    pub asked : (waker : ℕ) (n : ℕ) (reply : Reply) (result : Result (Poll HoldingState) PollError) (left : RequestState) (object' : ObjectState) (thing : Thing) → n ≡ size_for want object.kind
+        → PollsAs (record { mode = mode_of want; of = place; size = n; stage = NotPolled }) waker object result left object' → IsAnswered place result left thing reply → IsSteady object'
+        → Updated table table' made (Some thing) → new.objects.items ≡ slice_set kept place object' → new.last ≡ place → FollowsFrom (ask_call want made of waker) reply new state
+    asked waker n reply (Ok (polls.Ready holding)) left object' thing size polled answered steady updated items last =
+        had n object' thing (ask_call want made of waker) (rules.Ask (tag (mode_of want) made) n waker) Ready reply (asks waker n size) (cond-true _ _ _ (served_too n ∙ polled.polled.0))
+        (ap₂ of_kind polled.kind polled.polled.2) steady (answered.0 ∙ ap things.Holding (ap₂ held_in polled.gives polled.polled.1)) updated items last answered.1
+    asked waker n reply (Ok polls.Pending) left object' thing size polled answered steady updated items last =
+        let entered = polled.polled.1 in
+        let slot = entered.0 in
+        let object_is : object' ≡ on_semaphore (joined slot n waker) object = ap₂ of_kind polled.kind entered.2 in
+        let thing_is : thing ≡ things.Request place (record { mode = mode_of want; of = place; size = n; stage = Joined slot }) = answered.0 ∙ ap (things.Request place) (ap₂ in_mode polled.mode entered.3) in
+        acted old none state stands (ask_call want made of waker) (rules.Ask (tag (mode_of want) made) n waker) Pending reply new place object (on_semaphore (joined slot n waker) object)
+        (joining it.spot (tag (mode_of want) made) n waker slot table' free entered.1
+        (subst (λ t. Updated table table' made (Some t)) thing_is updated) (subst (λ (o : ObjectState). IsSteady o) object_is steady))
+        it there (asks waker n size)
+        (joins it.spot (tag (mode_of want) made) n waker slot table' free entered.1
+        (subst (λ t. Updated table table' made (Some t)) thing_is updated) (subst (λ (o : ObjectState). IsSteady o) object_is steady) (served_too n ∙ polled.polled.0))
+        (touched_one place table table' made (Some thing) updated (subst (IsOf place) (sym free) tt) (subst (λ t. IsOf place (Some t)) (sym thing_is) refl))
+        (items ∙ ap (slice_set kept place) object_is) last answered.1
+    asked waker n reply (Err error) left object' thing size polled answered steady updated items last = absurd answered
+
+  -- the name is taken
+  module _ (names : (n : List ℕ) → table' n ≡ table n) (items : new.objects.items ≡ kept) (want : Want) (made of : List ℕ) (place : ℕ) (is : offering (mode_of want) kept (object_place (table of)) ≡ Ok place)
+      (object : ObjectState) (there : slice_get kept place ≡ Some object) (live_name : IsSome (table made)) where
+    found_one : object_for (mode_of want) (standing of state) ≡ Ok (target old none state stands place object there).named
+    found_one = object_there old none state stands (mode_of want) of place (target old none state stands place object there).named is (target old none state stands place object there).there
+
+    pub ask_taken : (waker : ℕ) → FollowsFrom (ask_call want made of waker) (replies.Refused refusals.Taken) new state
+    ask_taken waker =
+        refused old none state stands new names items (ask_call want made of waker) refusals.Taken
+        (plan_asks want made of waker state
+        ∙ ap₂ (λ one unused. one >>= λ named. unused >>= λ found. Act named (rules.Ask (tag (mode_of want) made) (size_for want named.object.kind) waker)) found_one (taken_name old none state stands made live_name))
+
+    pub try_taken : FollowsFrom (try_call want made of) (replies.Refused refusals.Taken) new state
+    try_taken =
+        refused old none state stands new names items (try_call want made of) refusals.Taken
+        (plan_tries want made of state
+        ∙ ap₂ (λ one unused. one >>= λ named. unused >>= λ found. Act named (rules.Try (tag (mode_of want) made) (size_for want named.object.kind))) found_one (taken_name old none state stands made live_name))
+
+  -- a new name is asked for
+  pub asks_name : (want : Want) (made of : List ℕ) (waker place : ℕ) (reply : Reply) → offering (mode_of want) kept (object_place (table of)) ≡ Ok place → table made ≡ None
+      → AsksName made place want waker table table' kept new.objects.items reply → new.last ≡ place → FollowsFrom (ask_call want made of waker) reply new state
+  asks_name want made of waker place reply is free a last =
+      let p = a.asked.polls in
+      asked want made of place is free p.before p.there waker (size_for want a.asked.kind) reply p.result p.left p.after a.left
+      (ap (size_for want) (kind_there kept place p.before a.asked.kind p.there a.asked.there)) p.polled p.answered p.lawful a.updated p.set last
+
+  -- A later poll.
+  polls_again : (name : List ℕ) (waker place : ℕ) (request : RequestState) → table name ≡ Some (things.Request place request) → (object : ObjectState) (there : slice_get kept place ≡ Some object)
+      → (reply : Reply) (result : Result (Poll HoldingState) PollError) (left : RequestState) (object' : ObjectState) (thing : Thing) → PollsAs request waker object result left object' → IsAnswered place result left thing reply
+      → IsSteady object' → Updated table table' name (Some thing) → new.objects.items ≡ slice_set kept place object' → new.last ≡ place → FollowsFrom (calls.Poll name waker) reply new state
+  polls_again name waker place request is object there reply result left object' thing polled answered steady updated items last =
+      go result left thing polled.kind polled.mode polled.gives later answered updated
+    where
+      it : Target old none state stands place object
+      it = target old none state stands place object there
+
+      has : HasSlot (stands.tags place) place object.line name request
+      has = slot_of it.spot name request is
+
+      later : LaterPoll has.slot (asked_of request) waker (shares_of object) (permit_answer result) (asked_of left) (shares_of object')
+      later = subst (λ stage. PollsAt stage (asked_of request) waker (shares_of object) (permit_answer result) (asked_of left) (shares_of object')) has.joined polled.polled
+
+      planned : plan (calls.Poll name waker) state ≡ Act it.named (rules.Poll name waker)
+      planned = ap (λ s. asked_object s >>= λ of. Act of (rules.Poll name waker)) (standing_as old none state stands name (things.Request place request) object it is)
+
+      go : (result : Result (Poll HoldingState) PollError) (left : RequestState) (thing : Thing) → object'.kind ≡ object.kind → left.mode ≡ request.mode → GivesIn request.mode result
+          → LaterPoll has.slot (asked_of request) waker (shares_of object) (permit_answer result) (asked_of left) (shares_of object') → IsAnswered place result left thing reply
+          → Updated table table' name (Some thing) → FollowsFrom (calls.Poll name waker) reply new state
+      go (Ok (polls.Ready holding)) left thing kind mode gives later answered updated =
+          let object_is : object' ≡ on_semaphore (received has.slot request.size) object = ap₂ of_kind kind later.2 in
+          let thing_is : thing ≡ things.Holding (record { mode = request.mode; of = place; count = request.size }) = answered.0 ∙ ap things.Holding (ap₂ held_in gives (later.1 ∙ ap (λ k. record { of = k; count = request.size }) has.of)) in
+          acted old none state stands (calls.Poll name waker) (rules.Poll name waker) Ready reply new place object (on_semaphore (received has.slot request.size) object) (stands.tags place) it there planned
+          (receives it.spot name request is table' waker later.0
+          (subst (λ t. Updated table table' name (Some t)) thing_is updated) (subst (λ (o : ObjectState). IsSteady o) object_is steady))
+          (touched_one place table table' name (Some thing) updated (subst (IsOf place) (sym is) refl) (subst (λ t. IsOf place (Some t)) (sym thing_is) refl))
+          (items ∙ ap (slice_set kept place) object_is) last answered.1
+      go (Ok polls.Pending) left thing kind mode gives later answered updated =
+          let object_is : object' ≡ on_semaphore (with_waker has.slot waker) object = ap₂ of_kind kind later.1 in
+          let thing_is : thing ≡ things.Request place request = answered.0 ∙ ap (things.Request place) (ap₂ in_mode mode later.2) in
+          acted old none state stands (calls.Poll name waker) (rules.Poll name waker) Pending reply new place object (on_semaphore (with_waker has.slot waker) object) (stands.tags place) it there planned
+          (rewakes it.spot name request is table' waker later.0
+          (subst (λ t. Updated table table' name (Some t)) thing_is updated) (subst (λ (o : ObjectState). IsSteady o) object_is steady))
+          (touched_one place table table' name (Some thing) updated (subst (IsOf place) (sym is) refl) (subst (λ t. IsOf place (Some t)) (sym thing_is) refl))
+          (items ∙ ap (slice_set kept place) object_is) last answered.1
+      go (Err error) left thing kind mode gives later answered updated = absurd answered
+
+  pub polls_name : (name : List ℕ) (waker place : ℕ) (reply : Reply) → PollsName name waker table table' kept new.objects.items place reply → new.last ≡ place → FollowsFrom (calls.Poll name waker) reply new state
+  polls_name name waker place reply p last = go p.found p.was p.polled p.at
+    where
+      -- what refuses it is what it was before
+      unchanged : (found : Thing) → table name ≡ Some found → p.left ≡ found → (n : List ℕ) → table' n ≡ table n
+      unchanged found was left = updated_same table table' name (Some p.left) p.updated (was ∙ ap Some (sym left))
+
+      standing_is : (found : Thing) → table name ≡ Some found → Live old none state stands (place_at found)
+      standing_is found was = live old none state stands name found was
+
+      go : (found : Thing) → table name ≡ Some found → PollsThing found waker kept p.left reply new.objects.items → place ≡ place_at found → FollowsFrom (calls.Poll name waker) reply new state
+      go (things.Object other) was polled at =
+          subst (λ r. FollowsFrom (calls.Poll name waker) r new state) (sym polled.1)
+          (refused old none state stands new (unchanged (things.Object other) was polled.0) polled.2 (calls.Poll name waker) refusals.Kind
+          (ap (λ s. asked_object s >>= λ of. Act of (rules.Poll name waker)) (standing_live old none state stands name (things.Object other) was)))
+      go (things.Holding holding) was polled at =
+          subst (λ r. FollowsFrom (calls.Poll name waker) r new state) (sym polled.1)
+          (refused old none state stands new (unchanged (things.Holding holding) was polled.0) polled.2 (calls.Poll name waker) refusals.Finished
+          (ap (λ s. asked_object s >>= λ of. Act of (rules.Poll name waker)) (standing_live old none state stands name (things.Holding holding) was)))
+      go (things.Request other request) was polled at =
+          polls_again name waker other request was polled.before polled.there reply polled.result polled.left polled.after p.left polled.polled polled.answered polled.lawful p.updated polled.set (last ∙ at)
+
+  pub polls_nothing : (name : List ℕ) (waker : ℕ) → table name ≡ None → ((n : List ℕ) → table' n ≡ table n) → new.objects.items ≡ kept → FollowsFrom (calls.Poll name waker) (replies.Refused refusals.Unknown) new state
+  polls_nothing name waker free names items =
+      refused old none state stands new names items (calls.Poll name waker) refusals.Unknown (ap (λ s. asked_object s >>= λ of. Act of (rules.Poll name waker)) (absent old none state stands name free))
+
+  -- A name that is no object ends.
+  pub drops_name : (name : List ℕ) (thing : Thing) → is_object (table name) ≡ false → table name ≡ Some thing → DropsThing thing kept new.objects.items → Updated table table' name None → new.last ≡ place_at thing
+      → FollowsFrom (calls.Drop name) replies.Done new state
+  drops_name name (things.Object place) plain is dropped updated last = absurd (true≢false (sym (ap is_object is) ∙ plain))
+  drops_name name (things.Holding holding) plain is dropped updated last =
+      let it = target old none state stands holding.of dropped.before dropped.there in
+      let given = on_semaphore (given_back holding.count) dropped.before in
+      acted old none state stands (calls.Drop name) (rules.Drop name) Done replies.Done new holding.of dropped.before dropped.after (stands.tags holding.of) it dropped.there
+      (ap (λ s. owner s >>= λ of. Act of (rules.Drop name)) (standing_as old none state stands name (things.Holding holding) dropped.before it is))
+      (lands_like given dropped.after dropped.like dropped.lawful it.named holding.of (rules.Drop name) Done (stands.tags holding.of) table'
+      (lets_go it.spot name holding refl is (rules.Drop name) table' given
+      (give_back holding.count it.named.object.line)
+      (ap (λ o. drop_of o (is_tag bytes_eq name) it.named.object) (held_there it.spot name holding refl is))
+      (given_back_is it.spot holding.count)
+      refl refl refl (steady_before given dropped.after dropped.like dropped.lawful)
+      (requests-give_back holding.count it.named.object.line) (requests-give_back holding.count dropped.before.line) updated))
+      (touched_one holding.of table table' name None updated (subst (IsOf holding.of) (sym is) refl) tt) dropped.set last refl
+  drops_name name (things.Request place request) plain is dropped updated last =
+      let it = target old none state stands place dropped.before dropped.there in
+      let has = slot_of it.spot name request is in
+      let ended = on_semaphore (without_request has.slot) dropped.before in
+      let like : IsLikeObject ended dropped.after = subst (λ stage. IsLikeObject (cancelled_at stage dropped.before) dropped.after) has.joined dropped.like in
+      acted old none state stands (calls.Drop name) (rules.Drop name) Done replies.Done new place dropped.before dropped.after (stands.tags place) it dropped.there
+      (ap (λ s. owner s >>= λ of. Act of (rules.Drop name)) (standing_as old none state stands name (things.Request place request) dropped.before it is))
+      (lands_like ended dropped.after like dropped.lawful it.named place (rules.Drop name) Done (stands.tags place) table'
+      (ends it.spot name request is table' updated (steady_before ended dropped.after like dropped.lawful)))
+      (touched_one place table table' name None updated (subst (IsOf place) (sym is) refl) tt) dropped.set last refl
+
+  pub drops_object : (name : List ℕ) → is_object (table name) ≡ true → ((n : List ℕ) → table' n ≡ table n) → new.objects.items ≡ kept → FollowsFrom (calls.Drop name) (replies.Refused refusals.Kind) new state
+  drops_object name is names items = go (table name) refl is
+    where
+      go : (o : Option Thing) → table name ≡ o → is_object o ≡ true → FollowsFrom (calls.Drop name) (replies.Refused refusals.Kind) new state
+      go None was is = cc
+      go (Some (things.Object place)) was is =
+          refused old none state stands new names items (calls.Drop name) refusals.Kind (ap (λ s. owner s >>= λ of. Act of (rules.Drop name)) (standing_live old none state stands name (things.Object place) was))
+      go (Some (things.Request place request)) was is = cc
+      go (Some (things.Holding holding)) was is = cc
+
+  pub drops_nothing : (name : List ℕ) → table name ≡ None → ((n : List ℕ) → table' n ≡ table n) → new.objects.items ≡ kept → FollowsFrom (calls.Drop name) (replies.Refused refusals.Unknown) new state
+  drops_nothing name free names items =
+      refused old none state stands new names items (calls.Drop name) refusals.Unknown (ap (λ s. owner s >>= λ of. Act of (rules.Drop name)) (absent old none state stands name free))
+
+  -- A call of an object of which something is asked is refused where there is none.
+  module _ (names : (n : List ℕ) → table' n ≡ table n) (items : new.objects.items ≡ kept) where
+    pub refused_for : (call : Call) (mode : Mode) (of : List ℕ) (refusal : Refusal) → offering mode kept (object_place (table of)) ≡ Err refusal
+        → (then : Named → Plan) → plan call state ≡ (object_for mode (standing of state) >>= then) → FollowsFrom call (replies.Refused refusal) new state
+    refused_for call mode of refusal is then planned =
+        refused old none state stands new names items call refusal (planned ∙ ap (λ one. one >>= then) (object_refused old none state stands mode of refusal is))
+
+    pub refused_holding : (call : Call) (mode : Mode) (name : List ℕ) (refusal : Refusal) → held_as mode (table name) ≡ Err refusal
+        → (then : Named → Plan) → plan call state ≡ (lender mode (standing name state) >>= then) → FollowsFrom call (replies.Refused refusal) new state
+    refused_holding call mode name refusal is then planned =
+        refused old none state stands new names items call refusal (planned ∙ ap (λ one. one >>= then) (held_refused old none state stands mode name refusal is))
+
+    pub refused_plain : (of : List ℕ) (refusal : Refusal) → object_place (table of) ≡ Err refusal → FollowsFrom (calls.Status of) (replies.Refused refusal) new state
+    refused_plain of refusal is =
+        refused old none state stands new names items (calls.Status of) refusal
+        (ap (λ one. one >>= λ it. Act it rules.Status)
+        (refuses state refusal (object_of (standing of state)) (subst (λ r. FoundAs state r (object_of (standing of state))) is (plain_found old none state stands of))))
+
+  -- A call of an object by its name, where no name changes.
+  module _ (names : (n : List ℕ) → table' n ≡ table n) (of : List ℕ) (place : ℕ) (object : ObjectState) (there : slice_get kept place ≡ Some object) where
+    abbrev target_there : Target old none state stands place object
+    target_there = target old none state stands place object there
+
+    abbrev object_of_it : Object Tag
+    object_of_it = target_there.named.object
+
+    same_line : object_of_it.line ≡ with_granted (rename (stands.tags place) object.line) object_of_it.line.granted
+    same_line = line_as target_there.spot
+
+    alike : AreAlike (rename (stands.tags place) object.line) object_of_it.line
+    alike = line_is target_there.spot
+
+    granted_same : total object_of_it.line.granted ≡ total object.line.granted
+    granted_same = total-alike (rename (stands.tags place) object.line) object_of_it.line alike ∙ total-renamed (stands.tags place) object.line.granted
+
+    does : (call : Call) (rule : Rule (List ℕ)) (answer : Answer) (object' : ObjectState) (line' : Line Tag) → plan call state ≡ Act target_there.named rule
+        → act bytes_eq rule object_of_it ≡ turn answer (record object_of_it { line = line' }) → AreAlike (rename (stands.tags place) object'.line) line'
+        → object'.kind ≡ object.kind → object'.number ≡ object.number → object'.held ≡ object.held → IsSteady object' → requests line' ≡ requests object_of_it.line → requests object'.line ≡ requests object.line
+        → new.objects.items ≡ slice_set kept place object' → new.last ≡ place → FollowsFrom call (reply_of answer) new state
+    does call rule answer object' line' planned turns is kind number held steady same_asked same_kept items last =
+        acted old none state stands call rule answer (reply_of answer) new place object object' (stands.tags place) target_there there planned
+        (stays target_there.spot table' names rule answer object' line' turns is kind number held steady same_asked same_kept)
+        (λ n. subst (Touched place (table n)) (sym (names n)) same) items last refl
+
+    module _ (is : offering Permit kept (object_place (table of)) ≡ Ok place) where
+      for_permits : object_for Permit (standing of state) ≡ Ok target_there.named
+      for_permits = object_there old none state stands Permit of place target_there.named is target_there.there
+
+      overflows_too : (n : ℕ) → would_overflow n object_of_it ≡ overflows n object.line object.held
+      overflows_too n =
+          ap₂ (λ (l : Line Tag) held. overflows n l held) same_line target_there.spot.at.held
+          ∙ ap (λ granted. int_lt (pos u64_max) (object.line.free +ℤ pos (granted + object.held + n))) granted_same
+
+      plan_release : (n : ℕ) → plan (calls.Release of n) state ≡ (refuse_if (overflows n object.line object.held) refusals.Overflow >>= λ found. Act target_there.named (rules.Release n))
+      plan_release n =
+          ap (λ one. one >>= λ named. refuse_if (would_overflow n named.object) refusals.Overflow >>= λ found. Act named (rules.Release n)) for_permits
+          ∙ ap (λ b. refuse_if b refusals.Overflow >>= λ found. Act target_there.named (rules.Release n)) (overflows_too n)
+
+      pub releases : (n : ℕ) (object' : ObjectState) → overflows n object.line object.held ≡ false → IsLikeObject (on_semaphore (released n) object) object' → IsSteady object'
+          → new.objects.items ≡ slice_set kept place object' → new.last ≡ place → FollowsFrom (calls.Release of n) replies.Done new state
+      releases n object' fits like steady items last =
+          let given = on_semaphore (released n) object in
+          acted old none state stands (calls.Release of n) (rules.Release n) Done replies.Done new place object object' (stands.tags place) target_there there
+          (plan_release n ∙ ap (λ b. refuse_if b refusals.Overflow >>= λ found. Act target_there.named (rules.Release n)) fits)
+          (lands_like given object' like steady target_there.named place (rules.Release n) Done (stands.tags place) table'
+          (stays target_there.spot table' names (rules.Release n) Done given (give_back n object_of_it.line) refl (given_back_is target_there.spot n) refl refl refl
+          (steady_before given object' like steady) (requests-give_back n object_of_it.line) (requests-give_back n object.line)))
+          (λ m. subst (Touched place (table m)) (sym (names m)) same) items last refl
+
+      pub overflow_refused : (n : ℕ) → overflows n object.line object.held ≡ true → new.objects.items ≡ kept → FollowsFrom (calls.Release of n) (replies.Refused refusals.Overflow) new state
+      overflow_refused n over items =
+          refused old none state stands new names items (calls.Release of n) refusals.Overflow
+          (plan_release n ∙ ap (λ b. refuse_if b refusals.Overflow >>= λ found. Act target_there.named (rules.Release n)) over)
+
+      plan_reduce : (n : ℕ) → plan (calls.Reduce of n) state ≡ (refuse_if (owes_too_much n object.line) refusals.Debt >>= λ found. Act target_there.named (rules.Reduce n))
+      plan_reduce n =
+          ap (λ one. one >>= λ named. refuse_if (would_owe_too_much n named.object) refusals.Debt >>= λ found. Act named (rules.Reduce n)) for_permits
+          ∙ ap (λ (l : Line Tag). refuse_if (owes_too_much n l) refusals.Debt >>= λ found. Act target_there.named (rules.Reduce n)) same_line
+
+      may_reduce : (n : ℕ) → owes_too_much n object.line ≡ false → plan (calls.Reduce of n) state ≡ Act target_there.named (rules.Reduce n)
+      may_reduce n fits = plan_reduce n ∙ ap (λ b. refuse_if b refusals.Debt >>= λ found. Act target_there.named (rules.Reduce n)) fits
+
+      pub reduces : (n : ℕ) (object' : ObjectState) → owes_too_much n object.line ≡ false → object' ≡ on_semaphore (reduced n) object → IsSteady object'
+          → new.objects.items ≡ slice_set kept place object' → new.last ≡ place → FollowsFrom (calls.Reduce of n) replies.Done new state
+      reduces n object' fits object_is steady items last =
+          does (calls.Reduce of n) (rules.Reduce n) Done (on_semaphore (reduced n) object) (take_permits n object_of_it.line) (may_reduce n fits) refl
+          (take_permits-alike n (rename (stands.tags place) object.line) object_of_it.line alike) refl refl refl (subst (λ (o : ObjectState). IsSteady o) object_is steady) refl refl (items ∙ ap (slice_set kept place) object_is) last
+
+      pub debt_refused : (n : ℕ) → owes_too_much n object.line ≡ true → new.objects.items ≡ kept → FollowsFrom (calls.Reduce of n) (replies.Refused refusals.Debt) new state
+      debt_refused n over items =
+          refused old none state stands new names items (calls.Reduce of n) refusals.Debt
+          (plan_reduce n ∙ ap (λ b. refuse_if b refusals.Debt >>= λ found. Act target_there.named (rules.Reduce n)) over)
+
+      pub works_reduce : (n : ℕ) → owes_too_much n object.line ≡ false → DidWork (step (calls.Reduce of n) state).reply
+      works_reduce n fits = works old none state stands (calls.Reduce of n) (rules.Reduce n) target_there.named (may_reduce n fits) tt
+
+      pub drains : (n count : ℕ) (object' : ObjectState) → count ≡ drained n object.line → object' ≡ on_semaphore (reduced count) object → IsSteady object'
+          → new.objects.items ≡ slice_set kept place object' → new.last ≡ place → FollowsFrom (calls.Drain of n) (replies.Drained count) new state
+      drains n count object' count_is object_is steady items last =
+          let drained_too : drained n object_of_it.line ≡ count = ap (drained n) same_line ∙ drained-rename (stands.tags place) n object.line ∙ sym count_is in
+          does (calls.Drain of n) (rules.Drain n) (Drained count) (on_semaphore (reduced count) object) (take_permits count object_of_it.line)
+          (ap (λ one. one >>= λ named. Act named (rules.Drain n)) for_permits)
+          (ap (λ m. turn (Drained m) (record object_of_it { line = take_permits m object_of_it.line })) drained_too)
+          (take_permits-alike count (rename (stands.tags place) object.line) object_of_it.line alike) refl refl refl (subst (λ (o : ObjectState). IsSteady o) object_is steady) refl refl (items ∙ ap (slice_set kept place) object_is) last
+
+    pub figures : object_place (table of) ≡ Ok place → new.objects.items ≡ kept
+        → FollowsFrom (calls.Status of) (replies.Figures (available object.line) object.line.free (length object.line.waiting) (total object.line.granted) object.held) new state
+    figures is items =
+        shows old none state stands new names items (calls.Status of) rules.Status (Figures (available object.line) object.line.free (length object.line.waiting) (total object.line.granted) object.held)
+        place object target_there
+        (ap (λ s. object_of s >>= λ it. Act it rules.Status) (standing_as old none state stands of (things.Object place) object target_there (object_from (table of) place is)))
+        (ap₂ (λ (l : Line Tag) held. turn (Figures (available l) l.free (length l.waiting) (total l.granted) held) object_of_it) same_line target_there.spot.at.held
+        ∙ ap₂ (λ a granted. turn (Figures a object.line.free (length (map (renamed_waiting (stands.tags place)) object.line.waiting)) granted object.held) object_of_it)
+        (available-rename (stands.tags place) object.line) granted_same
+        ∙ ap (λ w. turn (Figures (available object.line) object.line.free w (total object.line.granted) object.held) object_of_it) (length-map object.line.waiting (renamed_waiting (stands.tags place))))
+
+    -- what is tried for isn't there
+    pub tried_nothing : (want : Want) (made : List ℕ) (is : offering (mode_of want) kept (object_place (table of)) ≡ Ok place) (free : table made ≡ None) → is_served (size_for want object.kind) object.line ≡ false
+        → new.objects.items ≡ kept → FollowsFrom (try_call want made of) replies.Nothing new state
+    tried_nothing want made is free waits items =
+        shows old none state stands new names items (try_call want made of) (rules.Try (tag (mode_of want) made) (size_for want object.kind)) Nothing place object target_there
+        (tries want made of place is free object there (size_for want object.kind) refl)
+        (cond-false _ _ _ (served_too want made of place is free object there (size_for want object.kind) ∙ waits))
+
+  -- What a permit of a name comes to.
+  module _ (mode : Mode) (name : List ℕ) (holding : HoldingState) (is : held_as mode (table name) ≡ Ok holding) (object : ObjectState) (there : slice_get kept holding.of ≡ Some object) where
+    abbrev lender_there : Target old none state stands holding.of object
+    lender_there = target old none state stands holding.of object there
+
+    thing_is : table name ≡ Some (things.Holding holding)
+    thing_is = (held_from mode (table name) holding is).0
+
+    mode_is : holding.mode ≡ mode
+    mode_is = (held_from mode (table name) holding is).1
+
+    lends : lender mode (standing name state) ≡ Ok lender_there.named
+    lends = held_by old none state stands mode name holding lender_there.named is lender_there.there
+
+  pub forgets : (name : List ℕ) (permit : HoldingState) (is : held_as Permit (table name) ≡ Ok permit) (object object' : ObjectState) (there : slice_get kept permit.of ≡ Some object)
+      → object' ≡ on_semaphore (forgotten permit.count) object → IsSteady object' → Updated table table' name None → new.objects.items ≡ slice_set kept permit.of object' → new.last ≡ permit.of
+      → FollowsFrom (calls.Forget name) replies.Done new state
+  forgets name permit is object object' there object_is steady updated items last =
+      let it = target old none state stands permit.of object there in
+      let was = thing_is Permit name permit is object there in
+      acted old none state stands (calls.Forget name) (rules.Forget name) Done replies.Done new permit.of object (on_semaphore (forgotten permit.count) object) (stands.tags permit.of) it there
+      (ap (λ one. one >>= λ of. Act of (rules.Forget name)) (lends Permit name permit is object there))
+      (lets_go it.spot name permit refl was (rules.Forget name) table' (on_semaphore (forgotten permit.count) object) it.named.object.line refl (line_is it.spot) refl refl refl
+      (subst (λ (o : ObjectState). IsSteady o) object_is steady) refl refl updated)
+      (touched_one permit.of table table' name None updated (subst (IsOf permit.of) (sym was) refl) tt) (items ∙ ap (slice_set kept permit.of) object_is) last refl
+
+  pub split_taken : (name made : List ℕ) (n : ℕ) (whole : HoldingState) (is : held_as Permit (table name) ≡ Ok whole) → IsSome (table made)
+      → ((m : List ℕ) → table' m ≡ table m) → new.objects.items ≡ kept → FollowsFrom (calls.Split name made n) (replies.Refused refusals.Taken) new state
+  split_taken name made n whole is live_name names items =
+      let l = live old none state stands name (things.Holding whole) (held_from Permit (table name) whole is).0 in
+      refused old none state stands new names items (calls.Split name made n) refusals.Taken
+      (ap₂ (λ one unused. one >>= λ of. unused >>= λ found. Act of (rules.Split name made n)) (lends Permit name whole is l.object l.kept_there) (taken_name old none state stands made live_name))
+
+  module _ (name made : List ℕ) (n : ℕ) (whole : HoldingState) (is : held_as Permit (table name) ≡ Ok whole) (free : table made ≡ None) where
+    abbrev spot_of_whole : Live old none state stands whole.of
+    spot_of_whole = live old none state stands name (things.Holding whole) (held_from Permit (table name) whole is).0
+
+    abbrev object : ObjectState
+    object = spot_of_whole.object
+
+    abbrev there : slice_get kept whole.of ≡ Some object
+    there = spot_of_whole.kept_there
+
+    abbrev splitter : Target old none state stands whole.of object
+    splitter = target old none state stands whole.of object there
+
+    split_apart : bytes_eq name made ≡ false
+    split_apart = two_names table name made (things.Holding whole) (thing_is Permit name whole is object there) free
+
+    plan_split : plan (calls.Split name made n) state ≡ Act splitter.named (rules.Split name made n)
+    plan_split = ap₂ (λ one unused. one >>= λ of. unused >>= λ found. Act of (rules.Split name made n)) (lends Permit name whole is object there) (unused old none state stands made free)
+
+    pub splits_off : n ≤ whole.count → SplitsTo name made n table table' new.last → new.objects.items ≡ kept → FollowsFrom (calls.Split name made n) replies.Done new state
+    splits_off enough split items =
+        let was = thing_is Permit name whole is object there in
+        let one : split.whole ≡ whole = same_holding Permit (table name) split.whole whole split.was is in
+        let parted : Updated table split.mid name (Some (things.Holding (record whole { count = whole.count - n }))) = subst (λ (h : HoldingState). Updated table split.mid name (Some (things.Holding (record h { count = h.count - n })))) one split.parted in
+        let added : Updated split.mid table' made (Some (things.Holding (record { mode = Permit; of = whole.of; count = n }))) =
+        subst (λ (h : HoldingState). Updated split.mid table' made (Some (things.Holding h))) (ap (λ (h : HoldingState). record h { count = n }) one ∙ ap (λ m. record { mode = m; of = whole.of; count = n }) (mode_is Permit name whole is object there)) split.added in
+        acted old none state stands (calls.Split name made n) (rules.Split name made n) Done replies.Done new whole.of object object (stands.tags whole.of) splitter there plan_split
+        (splits splitter.spot name made whole refl (mode_is Permit name whole is object there) was free n split_apart enough split.mid table' splitter.spot.at.steady parted added)
+        (λ other. touched_twice (touched_one whole.of table split.mid name (Some (things.Holding (record whole { count = whole.count - n }))) parted (subst (IsOf whole.of) (sym was) refl) refl other)
+        (touched_one whole.of split.mid table' made (Some (things.Holding (record { mode = Permit; of = whole.of; count = n }))) added
+        (subst (IsOf whole.of) (sym (parted.others made split_apart ∙ free)) tt) refl other))
+        (items ∙ sym (set_itself kept whole.of object there)) (split.at ∙ ap (λ (h : HoldingState). h.of) one) refl
+
+    pub splits_none : whole.count < n → ((m : List ℕ) → table' m ≡ table m) → new.objects.items ≡ kept → FollowsFrom (calls.Split name made n) replies.Nothing new state
+    splits_none beyond names items =
+        shows old none state stands new names items (calls.Split name made n) (rules.Split name made n) Nothing whole.of object splitter plan_split
+        (ap (λ o. split_of o (is_tag bytes_eq name) (tag Permit made) n splitter.named.object) (held_there splitter.spot name whole refl (thing_is Permit name whole is object there)) ∙ cond-false _ _ _ (lt-leb n whole.count beyond))
+
+    pub works_split : n ≤ whole.count → DidWork (step (calls.Split name made n) state).reply
+    works_split enough =
+        works old none state stands (calls.Split name made n) (rules.Split name made n) splitter.named plan_split
+        (subst (λ (t : Turn Tag). DidWork (reply_of t.answer))
+        (sym (ap (λ o. split_of o (is_tag bytes_eq name) (tag Permit made) n splitter.named.object) (held_there splitter.spot name whole refl (thing_is Permit name whole is object there)) ∙ cond-true _ _ _ (le-leb n whole.count enough))) tt)
+
+  -- What is held for writing is held for reading.
+  pub downgrades : (name : List ℕ) → Downgrades name table table' kept new.objects.items new.last → FollowsFrom (calls.Downgrade name) replies.Done new state
+  downgrades name d =
+      let writer = d.writer in
+      let object = d.becomes.before in
+      let there = d.becomes.there in
+      let it = target old none state stands writer.of object there in
+      let was = thing_is Write name writer d.was object there in
+      let known : FitsHolding (Some object) writer = subst (λ o. FitsHolding o writer) there (fits_at stands.tags table kept state stands.under name (things.Holding writer) was) in
+      let fits : Fits object.kind Write writer.count = subst (λ m. Fits object.kind m writer.count) (mode_is Write name writer d.was object there) known.2 in
+      let lock = write_of object.kind fits.0 in
+      acted old none state stands (calls.Downgrade name) (rules.Downgrade name) Done replies.Done new writer.of object d.becomes.after (stands.tags writer.of) it there
+      (ap (λ one. one >>= λ of. Act of (rules.Downgrade name)) (lends Write name writer d.was object there))
+      (lands_like (downgraded writer.count object) d.becomes.after d.becomes.like d.becomes.lawful it.named writer.of (rules.Downgrade name) Done (stands.tags writer.of) table'
+      (lowers it.spot name writer refl was lock.0 (it.spot.at.kind ∙ lock.1) (fits.1 ∙ ap (λ k. size_of k Write) lock.1) d.some table'
+      (steady_before (downgraded writer.count object) d.becomes.after d.becomes.like d.becomes.lawful) d.updated))
+      (touched_one writer.of table table' name (Some (things.Holding (record { mode = Read; of = writer.of; count = 1 }))) d.updated (subst (IsOf writer.of) (sym was) refl) refl)
+      d.becomes.set d.at refl
+
+  -- Two permits.
+  module _ (first_name second_name : List ℕ) where
+    abbrev merge_plan : Result (Unit {0}) Refusal → Result (Unit {0}) Refusal → Result Named Refusal → Result Named Refusal → Plan
+    merge_plan first_live second_live one other =
+        first_live >>= λ found. second_live >>= λ found. one >>= λ a. other >>= λ b.
+        refuse_if (bytes_eq first_name second_name) refusals.Same >>= λ found. refuse_if (not (bytes_eq a.name b.name)) refusals.Other >>= λ found. Act a (rules.Merge first_name second_name)
+
+    -- the plan is to merge at the place that was found, or the refusal is one
+    abbrev pub MergeAs : Result ℕ Refusal → Plan → Type 0
+    MergeAs (Ok place) plan = (named : Named) → slice_get state place ≡ Some named → plan ≡ Act named (rules.Merge first_name second_name)
+    MergeAs (Err refusal) plan = plan ≡ Refuse refusal
+
+    merge_held : (h1 h2 : Result HoldingState Refusal) (l1 l2 : Result Named Refusal) → FoundAs state (place_held h1) l1 → FoundAs state (place_held h2) l2
+        → MergeAs (mergeable_held first_name second_name h1 h2) (merge_plan (Ok tt) (Ok tt) l1 l2)
+    merge_held (Err refusal) h2 l1 l2 one other = ap (λ l. merge_plan (Ok tt) (Ok tt) l l2) (refuses state refusal l1 one)
+    merge_held (Ok first) (Err refusal) (Ok a) l2 one other = ap (λ l. merge_plan (Ok tt) (Ok tt) (Ok a) l) (refuses state refusal l2 other)
+    merge_held (Ok first) (Err refusal) (Err reason) l2 one other = absurd one
+    merge_held (Ok first) (Ok second) (Err reason) l2 one other = absurd one
+    merge_held (Ok first) (Ok second) (Ok a) (Err reason) one other = absurd other
+    merge_held (Ok first) (Ok second) (Ok a) (Ok b) one other = by_name (bytes_eq first_name second_name) (first.of == second.of) refl
+      where
+        after : Bool → Bool → Plan
+        after is_same names_same = refuse_if is_same refusals.Same >>= λ found. refuse_if (not names_same) refusals.Other >>= λ found. Act a (rules.Merge first_name second_name)
+
+        by_name : (is_same places : Bool) → (first.of == second.of) ≡ places
+            → MergeAs (cond is_same (Err refusals.Same) (cond places (Ok first.of) (Err refusals.Other))) (after is_same (bytes_eq a.name b.name))
+        by_name true places is = refl
+        by_name false true is = λ named there.
+            let one_object : a ≡ b = same_Some a b (sym one ∙ ap (slice_get state) (eqb-true first.of second.of is) ∙ other) in
+            ap (after false) (ap (λ (n : Named). bytes_eq a.name n.name) (sym one_object) ∙ bytes_told.itself a.name) ∙ ap (λ n. Act n (rules.Merge first_name second_name)) (same_Some a named (sym one ∙ there))
+        by_name false false is = ap (after false) (apart_by_place old none state stands first.of second.of a b one other (λ k. true≢false (sym (eq-eqb first.of second.of k) ∙ is)))
+
+    merge_as : MergeAs (mergeable first_name second_name (table first_name) (table second_name)) (plan (calls.Merge first_name second_name) state)
+    merge_as = go (table first_name) (table second_name) refl refl
+      where
+        go : (o p : Option Thing) → table first_name ≡ o → table second_name ≡ p → MergeAs (mergeable first_name second_name o p) (plan (calls.Merge first_name second_name) state)
+        go None p is also =
+            ap (λ l. merge_plan l (if_live (standing second_name state)) (lender Permit (standing first_name state)) (lender Permit (standing second_name state)))
+            (ap if_live (absent old none state stands first_name is))
+        go (Some thing) None is also =
+            ap₂ (λ l m. merge_plan l m (lender Permit (standing first_name state)) (lender Permit (standing second_name state)))
+            (is_live old none state stands first_name thing is) (ap if_live (absent old none state stands second_name also))
+        go (Some thing) (Some other) is also =
+            subst (MergeAs (mergeable_held first_name second_name (held_as Permit (Some thing)) (held_as Permit (Some other))))
+            (sym (ap₂ (λ l m. merge_plan l m (lender Permit (standing first_name state)) (lender Permit (standing second_name state)))
+            (is_live old none state stands first_name thing is) (is_live old none state stands second_name other also)))
+            (merge_held (held_as Permit (Some thing)) (held_as Permit (Some other)) (lender Permit (standing first_name state)) (lender Permit (standing second_name state))
+            (subst (λ o. FoundAs state (place_held (held_as Permit o)) (lender Permit (standing first_name state))) is (held_found old none state stands Permit first_name))
+            (subst (λ o. FoundAs state (place_held (held_as Permit o)) (lender Permit (standing second_name state))) also (held_found old none state stands Permit second_name)))
+
+    pub merge_refused : (refusal : Refusal) → mergeable first_name second_name (table first_name) (table second_name) ≡ Err refusal → ((n : List ℕ) → table' n ≡ table n) → new.objects.items ≡ kept
+        → FollowsFrom (calls.Merge first_name second_name) (replies.Refused refusal) new state
+    merge_refused refusal is names items =
+        refused old none state stands new names items (calls.Merge first_name second_name) refusal (subst (λ r. MergeAs r (plan (calls.Merge first_name second_name) state)) is merge_as)
+
+    pub merges_two : (place : ℕ) (is : mergeable first_name second_name (table first_name) (table second_name) ≡ Ok place) (more : HoldingState) → held_as Permit (table second_name) ≡ Ok more
+        → (mid : List ℕ → Option Thing) → Updated table mid second_name None → Grows first_name mid table' more → new.objects.items ≡ kept → new.last ≡ place
+        → FollowsFrom (calls.Merge first_name second_name) replies.Done new state
+    merges_two place is more spent mid ended grown items last =
+        let two = can_merge first_name second_name (table first_name) (table second_name) place is in
+        let first = two.first in
+        let was = (held_from Permit (table first_name) first two.first_is).0 in
+        let spent_is = (held_from Permit (table second_name) more spent).0 in
+        let here : more.of ≡ first.of = ap (λ (h : HoldingState). h.of) (same_holding Permit (table second_name) more two.second spent two.second_is) ∙ sym two.one in
+        let whole : grown.whole ≡ first =
+        same_holding Permit (table first_name) grown.whole first (ap (held_as Permit) (sym (ended.others first_name (other_way bytes_eq bytes_told first_name second_name two.apart))) ∙ grown.was) two.first_is in
+        let object = live old none state stands first_name (things.Holding first) was in
+        let grew : Updated mid table' first_name (Some (things.Holding (record { mode = first.mode; of = first.of; count = first.count + more.count }))) =
+        subst (λ (h : HoldingState). Updated mid table' first_name (Some (things.Holding (record h { count = h.count + more.count })))) whole grown.updated in
+        acted old none state stands (calls.Merge first_name second_name) (rules.Merge first_name second_name) Done replies.Done new first.of object.object object.object (stands.tags first.of) object.it object.kept_there
+        (subst (λ r. MergeAs r (plan (calls.Merge first_name second_name) state)) (is ∙ ap (λ p. Ok p) two.at) merge_as object.it.named object.it.there)
+        (merges object.it.spot first_name second_name first more refl here was spent_is two.apart mid table' object.it.spot.at.steady ended grew)
+        (λ n. touched_twice (touched_one first.of table mid second_name None ended (subst (IsOf first.of) (sym spent_is) here) tt n)
+        (touched_one first.of mid table' first_name (Some (things.Holding (record { mode = first.mode; of = first.of; count = first.count + more.count }))) grew
+        (subst (IsOf first.of) (sym (ended.others first_name (other_way bytes_eq bytes_told first_name second_name two.apart) ∙ was)) refl) refl n))
+        (items ∙ sym (set_itself kept first.of object.object object.kept_there)) (last ∙ two.at) refl

@@ -1,0 +1,16 @@
+pub mod Lists
+pub mod Stood
+pub mod Slots
+pub mod Acting
+pub mod Landing
+pub mod Follow
+pub mod Fitting
+pub mod Named
+pub mod Lookups
+pub mod Calls
+pub mod Making
+pub mod Waking
+pub mod Lawful
+pub mod Updates
+pub mod Polled
+pub mod Parted

@@ -1,0 +1,56 @@
+-- What the player keeps, and what it stands for.
+use Rattle.std.specs.Prelude.{◌≡◌, ◌≢◌, ℕ, List, [], Option, Some, None, slice_get}
+use Rattle.band_rules.specs.declared.reply.Reply.{Reply}
+use Rattle.band_rules.specs.declared.reply.Reply.TheVariants as replies
+use Rattle.band_rules.specs.State.{State, Tag}
+use Rattle.band_rules.specs.Step.{step}
+use Rattle.band_script.specs.declared.call.Call.{Call}
+use Rattle.band_player.specs.Names.{thing_at}
+use Rattle.band_player.specs.Objects.{ObjectState}
+use Rattle.band_player.specs.Table.{StandsUnder}
+use Rattle.band_player.specs.declared.table.Table.{Table}
+
+abbrev pub wakes_of : Option ObjectState → List ℕ
+wakes_of None = []
+wakes_of (Some object) = object.line.wakes
+
+-- the wakers of the last call that are not taken yet
+abbrev pub wakes_left : Table → List ℕ
+wakes_left table = wakes_of (slice_get table.objects.items table.last)
+
+-- no object but the one that was called last has wakers to take
+abbrev pub OthersQuiet : ℕ → List ObjectState → Type 0
+OthersQuiet last kept = (place : ℕ) (object : ObjectState) → place ≢ last → slice_get kept place ≡ Some object → object.line.wakes ≡ []
+
+-- the table stands for a state, by some names of the slots
+pub record StandsFor (table : Table) (state : State) : Type 0 where
+  pub tags : ℕ → ℕ → Tag
+  pub under : StandsUnder tags (thing_at table.names) table.objects.items state
+  pub others : OthersQuiet table.last table.objects.items
+
+-- it stands for some state
+abbrev pub IsSound : Table → Type 0
+IsSound table = ∥ ((state : State) × StandsFor table state) ∥₁
+
+-- for every state that was stood for, the reply and the wakers are those of the call, and what it leaves is stood for
+pub record FollowsFrom (call : Call) (reply : Reply) (new : Table) (state : State) : Type 0 where
+  pub replied : reply ≡ (step call state).reply
+  pub woken : wakes_left new ≡ (step call state).woken
+  pub stands : StandsFor new (step call state).state
+
+abbrev pub Follows : Call → Table → Reply → Table → Type 0
+Follows call old reply new = (state : State) → StandsFor old state → FollowsFrom call reply new state
+
+-- the reply of a call that did its work
+abbrev pub DidWork : Reply → Type 0
+DidWork replies.Nothing = ⊥
+DidWork (replies.Refused refusal) = ⊥
+DidWork reply = Unit {0}
+
+-- in every state that is stood for, the call does its work
+abbrev pub Works : Call → Table → Type 0
+Works call table = (state : State) → StandsFor table state → DidWork (step call state).reply
+
+-- every state that was stood for still is
+abbrev pub Stays : Table → Table → Type 0
+Stays old new = (state : State) → StandsFor old state → StandsFor new state

@@ -1,0 +1,10 @@
+pub mod Apart
+pub mod Kept
+pub mod Moves
+pub mod Names
+pub mod Objects
+pub mod Player
+pub mod Table
+pub mod Thing
+pub mod Token
+pub mod Tokens

@@ -1,0 +1,98 @@
+-- What the player has at a place, and what its tokens are: each with the kind of its object, or with the mode of what it asks for.
+use Rattle.std.specs.Prelude.{◌≡◌, ℕ, Option}
+use Rattle.band_balance.specs.Line.{Line}
+use Rattle.band_balance.specs.Object.{Kind, Semaphore, Mutex, ReaderWriter, Mode, Permit, Lock, Read, Write}
+use Rattle.band_base.specs.declared.waker.Waker.{Waker}
+use Rattle.band_sem.specs.Semaphore.{SemaphoreState, IsLike, IsLawful, TakesWake}
+use Rattle.band_sem.specs.Permit.{Permit as Held}
+use Rattle.band_sem.specs.Request.{Request as Asked}
+use Rattle.band_sem.specs.Request.{Stage}
+use Rattle.band_sem.specs.Whole.{IsWhole}
+use Rattle.band_lock.specs.ReaderWriter.{IsWholeLock}
+use Rattle.band_player.specs.declared.object.Primitive.{Primitive}
+use Rattle.band_player.specs.declared.object.Primitive.TheVariants as objects
+use Rattle.band_player.specs.declared.request.AnyRequest.{AnyRequest}
+use Rattle.band_player.specs.declared.request.AnyRequest.TheVariants as requests
+use Rattle.band_player.specs.declared.holding.AnyHolding.{AnyHolding}
+use Rattle.band_player.specs.declared.holding.AnyHolding.TheVariants as holdings
+
+-- its kind, its number, its line by slots, and how much of it is held
+pub record ObjectState : Type 0 where
+  pub kind : Kind
+  pub number : ℕ
+  pub line : Line ℕ
+  pub held : ℕ
+
+-- an object of a kind with the figures of a semaphore
+abbrev pub of_kind : Kind → SemaphoreState → ObjectState
+of_kind kind sem = record { kind = kind; number = sem.number; line = sem.line; held = sem.held }
+
+abbrev pub state_of : Primitive → ObjectState
+state_of (objects.Semaphore sem) = of_kind Semaphore sem
+state_of (objects.Mutex mutex) = of_kind Mutex mutex
+state_of (objects.ReaderWriter lock) = of_kind (ReaderWriter lock.max) lock.shares
+
+-- the figures alone
+abbrev pub shares_of : ObjectState → SemaphoreState
+shares_of object = record { number = object.number; line = object.line; held = object.held }
+
+-- what a semaphore would become, with the kind that it has
+abbrev pub on_semaphore : (SemaphoreState → SemaphoreState) → ObjectState → ObjectState
+on_semaphore change object = of_kind object.kind (change (shares_of object))
+
+-- two of a kind that differ at most in the order of those granted
+pub record IsLikeObject (one other : ObjectState) : Type 0 where
+  pub kind : other.kind ≡ one.kind
+  pub shares : IsLike (shares_of one) (shares_of other)
+
+-- the oldest waker to wake of its line, if there is one, is taken
+pub record TakesWakeOf (old : ObjectState) (result : Option Waker) (new : ObjectState) : Type 0 where
+  pub woken : TakesWake (shares_of old) result (shares_of new)
+  pub kind : new.kind ≡ old.kind
+
+-- a request with its mode
+pub record RequestState : Type 0 where
+  pub mode : Mode
+  pub of : ℕ
+  pub size : ℕ
+  pub stage : Stage
+
+abbrev pub in_mode : Mode → Asked → RequestState
+in_mode mode request = record { mode = mode; of = request.of; size = request.size; stage = request.stage }
+
+abbrev pub request_of : AnyRequest → RequestState
+request_of (requests.Permit request) = in_mode Permit request
+request_of (requests.Lock request) = in_mode Lock request
+request_of (requests.Read request) = in_mode Read request
+request_of (requests.Write request) = in_mode Write request
+
+abbrev pub asked_of : RequestState → Asked
+asked_of request = record { of = request.of; size = request.size; stage = request.stage }
+
+-- what is held, with its mode
+pub record HoldingState : Type 0 where
+  pub mode : Mode
+  pub of : ℕ
+  pub count : ℕ
+
+abbrev pub held_in : Mode → Held → HoldingState
+held_in mode permit = record { mode = mode; of = permit.of; count = permit.count }
+
+abbrev pub holding_of : AnyHolding → HoldingState
+holding_of (holdings.Permit permit) = held_in Permit permit
+holding_of (holdings.Lock permit) = held_in Lock permit
+holding_of (holdings.Read permit) = held_in Read permit
+holding_of (holdings.Write permit) = held_in Write permit
+
+abbrev pub permit_in : HoldingState → Held
+permit_in holding = record { of = holding.of; count = holding.count }
+
+-- a lock stays a lock
+abbrev pub IsLockOf : Kind → SemaphoreState → Type 0
+IsLockOf Semaphore sem = Unit {0}
+IsLockOf Mutex sem = IsWhole 1 sem
+IsLockOf (ReaderWriter max) sem = IsWholeLock (record { max = max; shares = sem })
+
+-- what holds of an object between any two calls
+abbrev pub IsSteady : ObjectState → Type 0
+IsSteady object = IsLawful (shares_of object) × IsLockOf object.kind (shares_of object)

@@ -1,0 +1,116 @@
+//! The player: one call after another on named objects.
+ghost use Rattle.std.proofs.Props.{props};
+ghost use Rattle.band_player.specs.Kept.{IsSound};
+
+use crate::object::{New, Want};
+use crate::table::Table;
+use crate::{Call, Reply};
+use band_base::{Steps, Waker};
+use std::alloc::{AllocError, Global};
+use std::sync::ledger::Ledger;
+
+/// Named objects, and the requests and permits that scripts made of them. Dropping it loses the tokens inside.
+pub struct Player {
+    alloc: Global,
+    table: Table,
+    ghost sound: { IsSound table } by { Prim.hlevel props },
+}
+
+impl Player {
+    ghost use Rattle.std.specs.Prelude.{◌≡◌, [], ◌∷◌, IfOk, OnErr, IsOk, MatchOption};
+    ghost use Rattle.band_player.specs.Player.{StandsFor, Follows, Works, Stays, KeepsLaws, TakesNoMemory, wakers_left};
+    ghost use Rattle.band_script.specs.Call.{ForReaders};
+
+    /// No name.
+    pub fn new(alloc: Global) -> Player
+        ensures start { StandsFor result [] }
+        ensures wakers { wakers_left result ≡ [] }
+    {
+        Player {
+            alloc,
+            table: Table::new(alloc),
+        }
+    }
+
+    /// Runs one line of a script.
+    pub fn step<L: Ledger>(
+        &mut self,
+        call: &Call,
+        steps: &mut Steps<L>,
+    ) -> Result<Reply, AllocError>
+        // No waker of the step before is left.
+        requires quiet { wakers_left self.old ≡ [] }
+        // A lock is made for one reader at least.
+        requires readers { ForReaders call.now }
+        ensures follows { IfOk result (λ reply. Follows call.now self.old reply self.new) }
+        ensures err { OnErr result (Stays self.old self.new × (wakers_left self.new ≡ [])) }
+        // Want of memory comes in the place of neither a refusal nor `none`.
+        ensures works { OnErr result (Works call.now self.old) }
+        ensures succeeds { TakesNoMemory call.now → IsOk result }
+        ensures lawful { KeepsLaws self.new }
+    {
+        self.run(call.copy(), steps)
+    }
+
+    /// Runs one line of a script, as `step` does, and uses the call up. A name that it makes is moved into the table.
+    #[tactic(auto, using(crate::proofs::Lawful::keeps_laws))]
+    pub fn run<L: Ledger>(&mut self, call: Call, steps: &mut Steps<L>) -> Result<Reply, AllocError>
+        requires quiet { wakers_left self.old ≡ [] }
+        requires readers { ForReaders call }
+        ensures follows { IfOk result (λ reply. Follows call self.old reply self.new) }
+        ensures err { OnErr result (Stays self.old self.new × (wakers_left self.new ≡ [])) }
+        ensures works { OnErr result (Works call self.old) }
+        ensures succeeds { TakesNoMemory call → IsOk result }
+        ensures lawful { KeepsLaws self.new }
+    {
+        match call {
+            Call::Sem { made, n } => self.table.make(self.alloc, made, New::Semaphore(n)),
+            Call::Mutex { made } => self.table.make(self.alloc, made, New::Mutex),
+            Call::Rw { made, n } => self.table.make(self.alloc, made, New::ReaderWriter(n)),
+            Call::Ask { made, of, n, waker } => {
+                self.table
+                    .ask(Want::Permits(n), made, &of, Waker(waker), steps)
+            }
+            Call::Lock { made, of, waker } => {
+                self.table.ask(Want::Lock, made, &of, Waker(waker), steps)
+            }
+            Call::Read { made, of, waker } => {
+                self.table.ask(Want::Read, made, &of, Waker(waker), steps)
+            }
+            Call::Write { made, of, waker } => {
+                self.table.ask(Want::Write, made, &of, Waker(waker), steps)
+            }
+            Call::Poll { name, waker } => Ok(self.table.poll(&name, Waker(waker), steps)),
+            Call::Drop { name } => Ok(self.table.drop_name(&name, steps)),
+            Call::Try { made, of, n } => self.table.try_for(Want::Permits(n), made, &of),
+            Call::TryLock { made, of } => self.table.try_for(Want::Lock, made, &of),
+            Call::TryRead { made, of } => self.table.try_for(Want::Read, made, &of),
+            Call::TryWrite { made, of } => self.table.try_for(Want::Write, made, &of),
+            Call::Release { of, n } => Ok(self.table.release(&of, n, steps)),
+            Call::Reduce { of, n } => self.table.reduce(&of, n, steps),
+            Call::Drain { of, n } => Ok(self.table.drain(&of, n)),
+            Call::Downgrade { name } => Ok(self.table.downgrade(&name, steps)),
+            Call::Status { name } => Ok(self.table.status(&name)),
+            Call::Forget { name } => Ok(self.table.forget(&name)),
+            Call::Split { name, made, n } => self.table.split(&name, made, n),
+            Call::Merge { kept, spent } => Ok(self.table.merge(&kept, &spent)),
+        }
+    }
+
+    /// Takes the next waker of the last step, in the order of the grants.
+    pub fn take_wake(&mut self) -> Option<Waker>
+        ensures woken { MatchOption result
+            ((wakers_left self.old ≡ []) × (wakers_left self.new ≡ []))
+            (λ waker. wakers_left self.old ≡ waker.0 ∷ wakers_left self.new) }
+        ensures state { Stays self.old self.new }
+    {
+        self.table.take_wake()
+    }
+}
+
+impl Drop for Player {
+    fn drop(self) {
+        let Player { alloc: _, table } = self;
+        table.lose();
+    }
+}

@@ -1,0 +1,355 @@
+//! What the player keeps: the names, and the objects by place.
+ghost use Rattle.std.specs.Prelude.{◌≡◌, ◌∷◌, [], IfOk, OnErr, MatchOption};
+ghost use Rattle.band_script.specs.Call.{ForReaders};
+ghost use Rattle.band_script.specs.declared.call.Call.TheVariants as calls;
+ghost use Rattle.band_player.specs.Names.{thing_at};
+ghost use Rattle.band_player.specs.Moves.{mode_of, object_place, offering, mergeable, make_call, ask_call, try_call};
+ghost use Rattle.band_player.specs.Kept.{StandsFor, IsSound, Follows, Works, Stays, wakes_left};
+
+use crate::names::Names;
+use crate::object::{New, Object, Want};
+use crate::{Name, Reply};
+use band_base::{Steps, Waker};
+use band_sem::{ReduceError, Refusal};
+use std::alloc::{AllocError, Global};
+use std::sync::ledger::Ledger;
+
+/// The names, the objects, and which of the objects was called last.
+pub(crate) struct Table {
+    names: Names,
+    objects: Vec<Object>,
+    last: u64,
+}
+
+/// The place of the object of two permits that can become one.
+fn mergeable(names: &Names, kept: &Name, spent: &Name) -> Result<u64, Refusal>
+    ensures { result ≡ mergeable kept.now spent.now (thing_at names.now kept.now) (thing_at names.now spent.now) }
+{
+    match (names.permit_at(kept), names.permit_at(spent)) {
+        (Err(Refusal::Unknown), _) | (_, Err(Refusal::Unknown)) => Err(Refusal::Unknown),
+        (Err(refusal), _) | (_, Err(refusal)) => Err(refusal),
+        (Ok(_), Ok(_)) if kept == spent => Err(Refusal::Same),
+        (Ok(first), Ok(second)) if first == second => Ok(first),
+        _ => Err(Refusal::Other),
+    }
+}
+
+impl Table {
+    /// No name and no object.
+    pub(crate) fn new(alloc: Global) -> Table
+        ensures sound { IsSound result }
+        ensures start { StandsFor result [] }
+        ensures wakes { wakes_left result ≡ [] }
+    {
+        Table {
+            names: Names::new(alloc),
+            objects: Vec::new(alloc),
+            last: 0,
+        }
+    }
+
+    /// The place of the object with this name, of which this can be asked.
+    fn object_for(&self, name: &Name, want: Want) -> Result<u64, Refusal>
+        requires { IsSound self.now }
+        ensures { result ≡ offering (mode_of want) self.now.objects.items (object_place (thing_at self.now.names name.now)) }
+    {
+        let place = self.names.object_at(name)?;
+        if self.objects[place as usize].offers(want) {
+            Ok(place)
+        } else {
+            Err(Refusal::Kind)
+        }
+    }
+
+    /// Makes an object.
+    pub(crate) fn make(&mut self, alloc: Global, made: Name, new: New) -> Result<Reply, AllocError>
+        requires sound { IsSound self.old }
+        requires quiet { wakes_left self.old ≡ [] }
+        requires readers { ForReaders (make_call new made) }
+        ensures follows { IfOk result (λ reply. Follows (make_call new made) self.old reply self.new) }
+        ensures err { OnErr result (Stays self.old self.new × (wakes_left self.new ≡ [])) }
+        ensures works { OnErr result (Works (make_call new made) self.old) }
+        ensures sound { IsSound self.new }
+    {
+        if self.names.is_live(&made) {
+            return Ok(Reply::Refused(Refusal::Taken));
+        }
+        let place = self.objects.len() as u64;
+        self.objects.reserve(1)?;
+        self.names.add_object(made, place)?;
+        self.objects.push(Object::new(alloc, place, new)).unwrap();
+        Ok(Reply::Done)
+    }
+
+    /// Makes a request of an object and polls it first.
+    pub(crate) fn ask<L: Ledger>(
+        &mut self,
+        want: Want,
+        made: Name,
+        of: &Name,
+        waker: Waker,
+        steps: &mut Steps<L>,
+    ) -> Result<Reply, AllocError>
+        requires sound { IsSound self.old }
+        requires quiet { wakes_left self.old ≡ [] }
+        ensures follows { IfOk result (λ reply. Follows (ask_call want made of.now waker.0) self.old reply self.new) }
+        ensures err { OnErr result (Stays self.old self.new × (wakes_left self.new ≡ [])) }
+        ensures works { OnErr result (Works (ask_call want made of.now waker.0) self.old) }
+        ensures sound { IsSound self.new }
+    {
+        let place = match self.object_for(of, want) {
+            Ok(place) => place,
+            Err(refusal) => return Ok(Reply::Refused(refusal)),
+        };
+        if self.names.is_live(&made) {
+            return Ok(Reply::Refused(Refusal::Taken));
+        }
+        let objects = &mut self.objects;
+        let reply = self.names.ask(objects, place, want, made, waker, steps)?;
+        self.last = place;
+        Ok(reply)
+    }
+
+    /// Polls what a name is.
+    pub(crate) fn poll<L: Ledger>(
+        &mut self,
+        name: &Name,
+        waker: Waker,
+        steps: &mut Steps<L>,
+    ) -> Reply
+        requires sound { IsSound self.old }
+        requires quiet { wakes_left self.old ≡ [] }
+        ensures follows { Follows (calls.Poll name.now waker.0) self.old result self.new }
+        ensures sound { IsSound self.new }
+    {
+        match self.names.poll(&mut self.objects, name, waker, steps) {
+            None => Reply::Refused(Refusal::Unknown),
+            Some((place, reply)) => {
+                self.last = place;
+                reply
+            }
+        }
+    }
+
+    /// Lets go of the request or permit that a name is.
+    pub(crate) fn drop_name<L: Ledger>(&mut self, name: &Name, steps: &mut Steps<L>) -> Reply
+        requires sound { IsSound self.old }
+        requires quiet { wakes_left self.old ≡ [] }
+        ensures follows { Follows (calls.Drop name.now) self.old result self.new }
+        ensures sound { IsSound self.new }
+    {
+        if self.names.is_object(name) {
+            return Reply::Refused(Refusal::Kind);
+        }
+        let Some(token) = self.names.remove(name) else {
+            return Reply::Refused(Refusal::Unknown);
+        };
+        self.last = token.place();
+        token.drop_from(&mut self.objects, steps);
+        Reply::Done
+    }
+
+    /// Takes permits or a guard without waiting.
+    pub(crate) fn try_for(&mut self, want: Want, made: Name, of: &Name) -> Result<Reply, AllocError>
+        requires sound { IsSound self.old }
+        requires quiet { wakes_left self.old ≡ [] }
+        ensures follows { IfOk result (λ reply. Follows (try_call want made of.now) self.old reply self.new) }
+        ensures err { OnErr result (Stays self.old self.new × (wakes_left self.new ≡ [])) }
+        ensures works { OnErr result (Works (try_call want made of.now) self.old) }
+        ensures sound { IsSound self.new }
+    {
+        let place = match self.object_for(of, want) {
+            Ok(place) => place,
+            Err(refusal) => return Ok(Reply::Refused(refusal)),
+        };
+        if self.names.is_live(&made) {
+            return Ok(Reply::Refused(Refusal::Taken));
+        }
+        if !self.objects[place as usize].would_serve(want) {
+            return Ok(Reply::Nothing);
+        }
+        let object = &mut self.objects[place as usize];
+        self.names.take(object, want, made)?;
+        self.last = place;
+        Ok(Reply::Done)
+    }
+
+    /// Adds permits to a semaphore.
+    pub(crate) fn release<L: Ledger>(&mut self, of: &Name, n: u64, steps: &mut Steps<L>) -> Reply
+        requires sound { IsSound self.old }
+        requires quiet { wakes_left self.old ≡ [] }
+        ensures follows { Follows (calls.Release of.now n) self.old result self.new }
+        ensures sound { IsSound self.new }
+    {
+        let place = match self.object_for(of, Want::Permits(n)) {
+            Ok(place) => place,
+            Err(refusal) => return Reply::Refused(refusal),
+        };
+        self.last = place;
+        let object = &mut self.objects[place as usize];
+        match object.release(n, steps) {
+            Ok(()) => Reply::Done,
+            Err(_) => Reply::Refused(Refusal::Overflow),
+        }
+    }
+
+    /// Takes permits away from a semaphore.
+    pub(crate) fn reduce<L: Ledger>(
+        &mut self,
+        of: &Name,
+        n: u64,
+        steps: &mut Steps<L>,
+    ) -> Result<Reply, AllocError>
+        requires sound { IsSound self.old }
+        requires quiet { wakes_left self.old ≡ [] }
+        ensures follows { IfOk result (λ reply. Follows (calls.Reduce of.now n) self.old reply self.new) }
+        ensures err { OnErr result (Stays self.old self.new × (wakes_left self.new ≡ [])) }
+        ensures works { OnErr result (Works (calls.Reduce of.now n) self.old) }
+        ensures sound { IsSound self.new }
+    {
+        let place = match self.object_for(of, Want::Permits(n)) {
+            Ok(place) => place,
+            Err(refusal) => return Ok(Reply::Refused(refusal)),
+        };
+        self.last = place;
+        let object = &mut self.objects[place as usize];
+        match object.reduce(n, steps) {
+            Ok(()) => Ok(Reply::Done),
+            Err(ReduceError::Debt) => Ok(Reply::Refused(Refusal::Debt)),
+            Err(ReduceError::NoMemory) => Err(AllocError),
+        }
+    }
+
+    /// Takes away what a semaphore has available.
+    pub(crate) fn drain(&mut self, of: &Name, n: u64) -> Reply
+        requires sound { IsSound self.old }
+        requires quiet { wakes_left self.old ≡ [] }
+        ensures follows { Follows (calls.Drain of.now n) self.old result self.new }
+        ensures sound { IsSound self.new }
+    {
+        let place = match self.object_for(of, Want::Permits(n)) {
+            Ok(place) => place,
+            Err(refusal) => return Reply::Refused(refusal),
+        };
+        self.last = place;
+        let object = &mut self.objects[place as usize];
+        Reply::Drained(object.drain(n))
+    }
+
+    /// The figures of an object.
+    pub(crate) fn status(&self, name: &Name) -> Reply
+        requires sound { IsSound self.now }
+        requires quiet { wakes_left self.now ≡ [] }
+        ensures { Follows (calls.Status name.now) self.now result self.now }
+    {
+        let place = match self.names.object_at(name) {
+            Ok(place) => place,
+            Err(refusal) => return Reply::Refused(refusal),
+        };
+        let semaphore = self.objects[place as usize].semaphore();
+        Reply::Figures {
+            available: semaphore.available_permits(),
+            free: semaphore.free(),
+            waiting: semaphore.waiting_count(),
+            granted: semaphore.granted_permits(),
+            held: semaphore.held_permits(),
+        }
+    }
+
+    /// Ends the permit that a name is, and nothing comes back.
+    pub(crate) fn forget(&mut self, name: &Name) -> Reply
+        requires sound { IsSound self.old }
+        requires quiet { wakes_left self.old ≡ [] }
+        ensures follows { Follows (calls.Forget name.now) self.old result self.new }
+        ensures sound { IsSound self.new }
+    {
+        if let Err(refusal) = self.names.permit_at(name) {
+            return Reply::Refused(refusal);
+        }
+        let permit = self.names.remove(name).unwrap().into_permit();
+        let place = permit.of();
+        self.last = place;
+        permit.forget_at(&mut self.objects[place as usize]);
+        Reply::Done
+    }
+
+    /// Moves permits of the one that a name is to a new one.
+    pub(crate) fn split(&mut self, name: &Name, made: Name, n: u64) -> Result<Reply, AllocError>
+        requires sound { IsSound self.old }
+        requires quiet { wakes_left self.old ≡ [] }
+        ensures follows { IfOk result (λ reply. Follows (calls.Split name.now made n) self.old reply self.new) }
+        ensures err { OnErr result (Stays self.old self.new × (wakes_left self.new ≡ [])) }
+        ensures works { OnErr result (Works (calls.Split name.now made n) self.old) }
+        ensures sound { IsSound self.new }
+    {
+        let permits = match self.names.permits(name) {
+            Ok(permits) => permits,
+            Err(refusal) => return Ok(Reply::Refused(refusal)),
+        };
+        if self.names.is_live(&made) {
+            return Ok(Reply::Refused(Refusal::Taken));
+        }
+        if permits < n {
+            return Ok(Reply::Nothing);
+        }
+        self.last = self.names.split(name, made, n)?;
+        Ok(Reply::Done)
+    }
+
+    /// Moves all permits of the second name to the first.
+    pub(crate) fn merge(&mut self, kept: &Name, spent: &Name) -> Reply
+        requires sound { IsSound self.old }
+        requires quiet { wakes_left self.old ≡ [] }
+        ensures follows { Follows (calls.Merge kept.now spent.now) self.old result self.new }
+        ensures sound { IsSound self.new }
+    {
+        let place = match mergeable(&self.names, kept, spent) {
+            Ok(place) => place,
+            Err(refusal) => return Reply::Refused(refusal),
+        };
+        let more = self.names.remove(spent).unwrap().into_permit();
+        self.names.grow(kept, more);
+        self.last = place;
+        Reply::Done
+    }
+
+    /// Makes the right to write that a name is one to read.
+    pub(crate) fn downgrade<L: Ledger>(&mut self, name: &Name, steps: &mut Steps<L>) -> Reply
+        requires sound { IsSound self.old }
+        requires quiet { wakes_left self.old ≡ [] }
+        ensures follows { Follows (calls.Downgrade name.now) self.old result self.new }
+        ensures sound { IsSound self.new }
+    {
+        if let Err(refusal) = self.names.writer_at(name) {
+            return Reply::Refused(refusal);
+        }
+        self.last = self.names.downgrade(&mut self.objects, name, steps);
+        Reply::Done
+    }
+
+    /// Takes the oldest waker to wake of the object that was called last.
+    pub(crate) fn take_wake(&mut self) -> Option<Waker>
+        requires { IsSound self.old }
+        ensures woken { MatchOption result
+            ((wakes_left self.old ≡ []) × (wakes_left self.new ≡ []))
+            (λ waker. wakes_left self.old ≡ waker.0 ∷ wakes_left self.new) }
+        ensures state { Stays self.old self.new }
+        ensures sound { IsSound self.new }
+    {
+        let last = self.last as usize;
+        if last < self.objects.len() {
+            return self.objects[last].take_wake();
+        }
+        None
+    }
+
+    /// Loses every token.
+    pub(crate) fn lose(self) {
+        let Table {
+            names,
+            objects: _,
+            last: _,
+        } = self;
+        names.lose();
+    }
+}

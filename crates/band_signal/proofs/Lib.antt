@@ -1,0 +1,2 @@
+mod Generations
+mod Standing
