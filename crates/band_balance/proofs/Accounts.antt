@@ -1,12 +1,14 @@
 -- What is free, granted and held: it adds up, and what is free falls below 0 by nothing but a reduction.
-use Rattle.std.proofs.Common.{◌≡◌, ℕ, ◌+◌, ◌-◌, ◌<◌, ◌≤◌, ◌==◌, ◌||◌, ◌&&◌, min, Bool, true, false, List, [], ◌∷◌, ◌++◌, Option, Some, None, ℤ, pos, neg_ℤ, ◌+ℤ◌, ◌-ℤ◌, ◌≤ℤ◌, int_le, int_lt, ◌⊎◌, inl, inr, refl, sym, ap, ap₂, ◌∙◌, subst, arith}
+use Rattle.std.proofs.Common.{◌≡◌, ℕ, ◌+◌, ◌-◌, ◌<◌, ◌≤◌, ◌==◌, ◌||◌, ◌&&◌, min, Bool, true, false, List, [], ◌∷◌, ◌++◌, Option, Some, None, ℤ, pos, neg_ℤ, ◌+ℤ◌, ◌-ℤ◌, ◌≤ℤ◌, int_le, int_lt, ◌⊎◌, inl}
+use Rattle.std.proofs.Common.{inr, refl, sym, ap, ap₂, ◌∙◌, subst, arith}
 use Rattle.std.specs.Prelude.{unsigned_abs}
 use Rattle.std.proofs.lemmas.Int.{ints}
 use Rattle.std.proofs.lemmas.Bool.{cond_both, and_parts, eqb-true}
-use Rattle.band_balance.specs.Line.{Entry, Waiting, Line, total, entry_of, settle_from, settle, take_permits, give_back, drained, entry_named, without, withdraw, cancel, poll_granted, is_served, nobody_waits, u64_max}
+use Rattle.band_balance.specs.Line.{Entry, Waiting, Line, total, entry_of, settle_from, settle, take_permits, give_back, drained, entry_named, without, withdraw, cancel, poll_granted, is_served}
+use Rattle.band_balance.specs.Line.{nobody_waits, u64_max}
 use Rattle.band_balance.specs.Object.{Object, Permit, Read, Write, Tag, tag, is_of, size_of, change}
-use Rattle.band_balance.specs.Rule.{is}
-use Rattle.band_balance.specs.Laws.{permits, LetsIn}
+use Rattle.band_balance.specs.Rule.{has_name}
+use Rattle.band_balance.specs.Laws.{permits, HasAShare}
 use Rattle.band_balance.proofs.Held.{TellsApart, names_apart, total-push, total-change, other-change}
 use Rattle.band_balance.proofs.Settle.{total-without, free-total-settle, free-total-give_back, free-total-cancel}
 use Rattle.band_balance.proofs.Turns.{Becomes, stays, takes, joins, receives, rewakes, returns, ends, comes, goes, drains, forgets, splits, merges, lowers}
@@ -178,10 +180,13 @@ module _ {N : Type 0} (object : Object N) where
       moved line held (total object.held) (total object.held) refl is
       (record {
         sum = ap₂ (λ z (es : List (Entry N)). z +ℤ pos (total es + total object.held)) frees grants;
-        debt = inr (subst (λ z. object.line.free ≤ℤ z) (sym frees) (least object.line.free), subst (λ (es : List (Entry N)). total es + total object.held ≤ hand object.line object.held) (sym grants) (omega arith));
+        debt = inr (
+          subst (λ z. object.line.free ≤ℤ z) (sym frees) (least object.line.free),
+          subst (λ (es : List (Entry N)). total es + total object.held ≤ hand object.line object.held) (sym grants) (omega arith),
+        );
       })
 
-module _ {K : Type 0} (same : K → K → Bool) (told : TellsApart same) (object : Object (Tag K)) (lets : LetsIn object.kind) where
+module _ {K : Type 0} (same : K → K → Bool) (told : TellsApart same) (object : Object (Tag K)) (lets : HasAShare object.kind) where
   or_less : {z : ℤ} {h : ℕ} → (pos 0 ≤ℤ z) ⊎ ((object.line.free ≤ℤ z) × (h ≤ hand object.line object.held))
       → (pos 0 ≤ℤ z) ⊎ (((object.line.free ≤ℤ z) ⊎ ((is_of object.kind Permit ≡ true) × (neg_ℤ (pos u64_max) ≤ℤ z))) × (h ≤ hand object.line object.held))
   or_less (inl paid) = inl paid
@@ -191,19 +196,20 @@ module _ {K : Type 0} (same : K → K → Bool) (told : TellsApart same) (object
   none_below (inl none) = inr (inl (omega (arith, ints)), omega arith)
   none_below (inr enough) = inl (omega (arith, ints))
 
-  pub accounts : {back : Bool} {came gone : ℕ} {who : Option K} {line : Line (Tag K)} {held : List (Entry (Tag K))} → Becomes same object back came gone who line held → Accounts object came gone line held
+  pub accounts : {back : Option (Tag K → Bool)} {came gone : ℕ} {who : Option K} {line : Line (Tag K)} {held : List (Entry (Tag K))} → Becomes same object back came gone who line held
+      → Accounts object came gone line held
   accounts stays = unmoved object object.line object.held refl refl refl
   accounts (takes made size served fits) =
       moved object _ _ (total object.held) (total object.held + size) refl (total-push object.held (record { name = made; size = size })) (moves_taken object.line (total object.held) size served)
   accounts (joins made size waker waits fresh fits) = unmoved object _ _ refl refl refl
   accounts (receives name entry there) =
-      moved object _ _ (total object.held) (total object.held + entry.size) refl (total-push object.held entry) (moves_received object.line (total object.held) (is same name) entry there)
+      moved object _ _ (total object.held) (total object.held + entry.size) refl (total-push object.held entry) (moves_received object.line (total object.held) (has_name same name) entry there)
   accounts (rewakes name waker) = unmoved object _ _ refl refl refl
   accounts (returns name entry there) =
-      let left = total-without (is same name) object.held entry there in
-      moved object _ _ (total (without (is same name) object.held) + entry.size) (total (without (is same name) object.held)) (omega arith) refl
-      (moves_given_back object.line (total (without (is same name) object.held)) entry.size)
-  accounts (ends name) = moved object _ _ (total object.held) (total object.held) refl refl (moves_cancelled object.line (total object.held) (is same name))
+      let left = total-without (has_name same name) object.held entry there in
+      moved object _ _ (total (without (has_name same name) object.held) + entry.size) (total (without (has_name same name) object.held)) (omega arith) refl
+      (moves_given_back object.line (total (without (has_name same name) object.held)) entry.size)
+  accounts (ends name) = moved object _ _ (total object.held) (total object.held) refl refl (moves_cancelled object.line (total object.held) (has_name same name))
   accounts (comes n fits under) = record {
     sum = came_in object.line.free (give_back n object.line).free (total object.line.granted) (total (give_back n object.line).granted) (total object.held) n
         (moves_given_back object.line (total object.held) n).sum;
@@ -215,26 +221,26 @@ module _ {K : Type 0} (same : K → K → Bool) (told : TellsApart same) (object
   }
   accounts (drains n fits) = record { sum = went_out object.line.free (hand object.line object.held) (drained n object.line); debt = none_below (drained_fits n object.line) }
   accounts (forgets name it) =
-      let left = total-without (is same name) object.held it.entry it.there in
+      let left = total-without (has_name same name) object.held it.entry it.there in
       record {
-        sum = ended_in_hand object.line.free (total object.line.granted) (total object.held) (total (without (is same name) object.held)) it.entry.size left;
+        sum = ended_in_hand object.line.free (total object.line.granted) (total object.held) (total (without (has_name same name) object.held)) it.entry.size left;
         debt = inr (inl (least object.line.free), omega arith);
       }
   accounts (splits name made n it enough) =
       let to = λ (e : Entry (Tag K)). record e { size = it.entry.size - n } in
-      let parts = total-change (is same name) to object.held it.entry it.there in
-      let all = total-push (change (is same name) to object.held) (record { name = tag Permit made; size = n }) in
+      let parts = total-change (has_name same name) to object.held it.entry it.there in
+      let all = total-push (change (has_name same name) to object.held) (record { name = tag Permit made; size = n }) in
       unmoved object _ _ refl refl (omega arith)
   accounts (merges kept spent it other apart) =
       let to = λ (e : Entry (Tag K)). record e { size = it.entry.size + other.entry.size } in
-      let grown = total-change (is same kept) to object.held it.entry it.there in
-      let still = other-change (is same kept) (is same spent) to object.held (names_apart same told kept spent apart object.held) (λ e h. h) ∙ other.there in
-      let left = total-without (is same spent) (change (is same kept) to object.held) other.entry still in
+      let grown = total-change (has_name same kept) to object.held it.entry it.there in
+      let still = other-change (has_name same kept) (has_name same spent) to object.held (names_apart same told kept spent apart object.held) (λ e h. h) ∙ other.there in
+      let left = total-without (has_name same spent) (change (has_name same kept) to object.held) other.entry still in
       unmoved object _ _ refl refl (omega arith)
   accounts (lowers name max kind it) =
       let to = λ (e : Entry (Tag K)). let lowered : Entry (Tag K) = record { name = tag Read name; size = 1 } in lowered in
-      let parts = total-change (is same name) to object.held it.entry it.there in
+      let parts = total-change (has_name same name) to object.held it.entry it.there in
       let whole : it.entry.size ≡ max = it.fits.1 ∙ ap (λ k. size_of k Write) kind in
-      let some : 0 < max = subst LetsIn kind lets in
-      moved object _ _ (total (change (is same name) to object.held) + (max - 1)) (total (change (is same name) to object.held)) (omega arith) refl
-      (moves_given_back object.line (total (change (is same name) to object.held)) (max - 1))
+      let some : 0 < max = subst HasAShare kind lets in
+      moved object _ _ (total (change (has_name same name) to object.held) + (max - 1)) (total (change (has_name same name) to object.held)) (omega arith) refl
+      (moves_given_back object.line (total (change (has_name same name) to object.held)) (max - 1))

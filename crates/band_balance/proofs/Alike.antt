@@ -1,12 +1,16 @@
 -- No rule looks at the order of those granted: of lines that are alike, a rule makes lines that are alike.
-use Rattle.std.proofs.Common.{◌≡◌, ℕ, zero, suc, ◌+◌, ◌-◌, nat_le, ◌≤◌, ◌<◌, Bool, true, false, cond, List, [], ◌∷◌, ◌++◌, map, length, set, get_or, Option, Some, None, refl, sym, ap, ◌∙◌, subst, arith}
+use Rattle.std.proofs.Common.{◌≡◌, ℕ, zero, suc, ◌+◌, ◌-◌, nat_le, ◌≤◌, ◌<◌, Bool, true, false, cond, List, [], ◌∷◌, ◌++◌, map, length, set, get_or, Option, Some, None, refl, sym, ap, ◌∙◌, subst}
+use Rattle.std.proofs.Common.{arith}
 use Rattle.std.specs.List.{AllByRecursion, swap}
 use Rattle.std.specs.List.Sorted.{IsPermutation}
 use Rattle.std.proofs.lemmas.List.Edits.{swap_is}
-use Rattle.std.proofs.lemmas.List.Sorted.{IsPermutation-refl, IsPermutation-keeps, IsPermutation-sym, IsPermutation-cons, IsPermutation-swap, IsPermutation-trans, IsPermutation-append_left, IsPermutation-map, sum_by-IsPermutation}
-use Rattle.band_balance.specs.Line.{Entry, Waiting, Line, AreAlike, available, drained, is_served, entry_of, requests, total, settle, give_back, add_permits, take_permits, join, entry_named, without, poll_granted, poll_waiting, withdraw, cancel, rename, renamed}
-use Rattle.band_balance.specs.Object.{Object, Turn, Answer, Done, Ready, Pending, Nothing, Drained, Figures, Kind, Semaphore, Mutex, ReaderWriter, Permit, Read, Tag, tag, turn, hold, poll_of, drop_of, split_of, merge_of, downgrade_of}
-use Rattle.band_balance.specs.Rule.{Rule, Ask, Poll, Try, Drop, Release, Reduce, Drain, Forget, Split, Merge, Downgrade, Status, is, act}
+use Rattle.std.proofs.lemmas.List.Sorted.{IsPermutation-refl, IsPermutation-keeps, IsPermutation-sym, IsPermutation-cons, IsPermutation-swap, IsPermutation-trans, IsPermutation-append_left}
+use Rattle.std.proofs.lemmas.List.Sorted.{IsPermutation-map, sum_by-IsPermutation}
+use Rattle.band_balance.specs.Line.{Entry, Waiting, Line, AreAlike, available, drained, is_served, entry_of, requests, total, settle, give_back, add_permits, take_permits, join, entry_named, without}
+use Rattle.band_balance.specs.Line.{poll_granted, poll_waiting, withdraw, cancel, rename, renamed}
+use Rattle.band_balance.specs.Object.{Object, Turn, Answer, Done, Ready, Pending, Nothing, Drained, Figures, Write, Tag, size_of, turn, hold, size_in}
+use Rattle.band_balance.proofs.Turns.{poll_of, drop_of}
+use Rattle.band_balance.specs.Rule.{Rule, Ask, Poll, Try, Drop, Release, Reduce, Drain, Forget, Split, Merge, Downgrade, Status, has_name, act}
 use Rattle.band_balance.specs.Laws.{Pairwise, IsOrderly, ObjectsAlike, TurnsAlike}
 use Rattle.band_balance.proofs.Held.{TellsApart}
 use Rattle.band_balance.proofs.Rename.{all_of_first}
@@ -225,22 +229,22 @@ pairwise_front R (x ∷ xs) ys each = (all_of_first (R x) xs ys each.0, pairwise
 
 module _ {K : Type 0} (same : K → K → Bool) (told : TellsApart same) where
   -- a name stands once at most where all names differ
-  pub named_once : (name : K) (es : List (Entry (Tag K))) → Pairwise (λ (a b : Entry (Tag K)). same a.name.name b.name.name ≡ false) es → count_named (is same name) es ≤ 1
+  pub named_once : (name : K) (es : List (Entry (Tag K))) → Pairwise (λ (a b : Entry (Tag K)). same a.name.name b.name.name ≡ false) es → count_named (has_name same name) es ≤ 1
   named_once name [] each = omega arith
   named_once name (e ∷ es) each = go (same name e.name.name) refl (named_once name es each.1)
     where
-      counts : count_named (is same name) (e ∷ es) ≡ cond (same name e.name.name) 1 0 + count_named (is same name) es
-      counts = count_named-cons (is same name) e es
+      counts : count_named (has_name same name) (e ∷ es) ≡ cond (same name e.name.name) 1 0 + count_named (has_name same name) es
+      counts = count_named-cons (has_name same name) e es
 
-      go : (b : Bool) → same name e.name.name ≡ b → count_named (is same name) es ≤ 1 → count_named (is same name) (e ∷ es) ≤ 1
+      go : (b : Bool) → same name e.name.name ≡ b → count_named (has_name same name) es ≤ 1 → count_named (has_name same name) (e ∷ es) ≤ 1
       go true it rest =
-          let none : count_named (is same name) es ≡ 0 =
-          count_named-none (is same name) es (none-from_all (is same name) es
+          let none : count_named (has_name same name) es ≡ 0 =
+          count_named-none (has_name same name) es (none-from_all (has_name same name) es
           (subst (λ (n : K). AllByRecursion (λ (later : Entry (Tag K)). same n later.name.name ≡ false) es) (sym (told.equal name e.name.name it)) each.0)) in
-          let all = counts ∙ ap (λ (b : Bool). cond b 1 0 + count_named (is same name) es) it in
+          let all = counts ∙ ap (λ (b : Bool). cond b 1 0 + count_named (has_name same name) es) it in
           omega (arith, none, all)
       go false other rest =
-          let all = counts ∙ ap (λ (b : Bool). cond b 1 0 + count_named (is same name) es) other in
+          let all = counts ∙ ap (λ (b : Bool). cond b 1 0 + count_named (has_name same name) es) other in
           omega (arith, all, rest)
 
   module _ (object : Object (Tag K)) (orderly : IsOrderly same object) (granted : List (Entry (Tag K))) (any : IsPermutation object.line.granted granted) where
@@ -251,11 +255,11 @@ module _ {K : Type 0} (same : K → K → Bool) (told : TellsApart same) where
     alike : AreAlike object.line (with_granted object.line granted)
     alike = reordered object.line granted any
 
-    once : (name : K) → count_named (is same name) object.line.granted ≤ 1
+    once : (name : K) → count_named (has_name same name) object.line.granted ≤ 1
     once name = named_once name object.line.granted (pairwise_front _ object.line.granted (map entry_of object.line.waiting) orderly.once)
 
-    found : (name : K) → entry_named (is same name) granted ≡ entry_named (is same name) object.line.granted
-    found name = granted-alike (is same name) object.line (with_granted object.line granted) alike (once name)
+    found : (name : K) → entry_named (has_name same name) granted ≡ entry_named (has_name same name) object.line.granted
+    found name = granted-alike (has_name same name) object.line (with_granted object.line granted) alike (once name)
 
     turned : (answer : Answer) (one other : Line (Tag K)) (held : List (Entry (Tag K))) → AreAlike one other
         → TurnsAlike (turn answer (record object { line = one; held = held })) (turn answer (record object { line = other; held = held }))
@@ -269,45 +273,30 @@ module _ {K : Type 0} (same : K → K → Bool) (told : TellsApart same) where
     either true first second = first
     either false first second = second
 
-    polled : (name : K) (waker : ℕ) (it : Option (Entry (Tag K))) → TurnsAlike (poll_of it (is same name) waker object) (poll_of it (is same name) waker Shuffled)
-    polled name waker (Some entry) = turned Ready _ _ (object.held ++ entry ∷ []) (poll_granted-alike (is same name) _ _ alike (once name))
-    polled name waker None = turned Pending _ _ object.held (poll_waiting-alike (is same name) waker _ _ alike)
+    polled : (name : K) (waker : ℕ) (it : Option (Entry (Tag K))) → TurnsAlike (poll_of it (has_name same name) waker object) (poll_of it (has_name same name) waker Shuffled)
+    polled name waker (Some entry) = turned Ready _ _ (object.held ++ entry ∷ []) (poll_granted-alike (has_name same name) _ _ alike (once name))
+    polled name waker None = turned Pending _ _ object.held (poll_waiting-alike (has_name same name) waker _ _ alike)
 
-    dropped : (name : K) (it : Option (Entry (Tag K))) → TurnsAlike (drop_of it (is same name) object) (drop_of it (is same name) Shuffled)
-    dropped name (Some entry) = turned Done _ _ (without (is same name) object.held) (give_back-alike entry.size _ _ alike)
-    dropped name None = turned Done _ _ object.held (cancel-alike (is same name) _ _ alike (once name))
-
-    split_alike : (it : Option (Entry (Tag K))) (name : K) (made : Tag K) (n : ℕ) → TurnsAlike (split_of it (is same name) made n object) (split_of it (is same name) made n Shuffled)
-    split_alike (Some entry) name made n = either (nat_le n entry.size) (turned Done _ _ _ alike) (turned Nothing _ _ object.held alike)
-    split_alike None name made n = turned Nothing _ _ object.held alike
-
-    merge_alike : (one other : Option (Entry (Tag K))) (kept spent : K) → TurnsAlike (merge_of one other (is same kept) (is same spent) object) (merge_of one other (is same kept) (is same spent) Shuffled)
-    merge_alike (Some one) (Some other) kept spent = turned Done _ _ _ alike
-    merge_alike None other kept spent = turned Nothing _ _ object.held alike
-    merge_alike (Some one) None kept spent = turned Nothing _ _ object.held alike
-
-    downgrade_alike : (kind : Kind) (it : Option (Entry (Tag K))) (name : K) → TurnsAlike (downgrade_of kind it (is same name) (tag Read name) object) (downgrade_of kind it (is same name) (tag Read name) Shuffled)
-    downgrade_alike (ReaderWriter max) (Some writer) name = turned Done _ _ _ (give_back-alike (max - 1) _ _ alike)
-    downgrade_alike (ReaderWriter max) None name = turned Nothing _ _ object.held alike
-    downgrade_alike Semaphore it name = turned Nothing _ _ object.held alike
-    downgrade_alike Mutex it name = turned Nothing _ _ object.held alike
+    dropped : (name : K) (it : Option (Entry (Tag K))) → TurnsAlike (drop_of it (has_name same name) object) (drop_of it (has_name same name) Shuffled)
+    dropped name (Some entry) = turned Done _ _ (without (has_name same name) object.held) (give_back-alike entry.size _ _ alike)
+    dropped name None = turned Done _ _ object.held (cancel-alike (has_name same name) _ _ alike (once name))
 
     act-shuffled : (rule : Rule K) → TurnsAlike (act same rule object) (act same rule Shuffled)
     act-shuffled (Ask made size waker) =
         either (is_served size object.line) (turned Ready _ _ (hold made size object.held) (take_permits-alike size _ _ alike)) (turned Pending _ _ object.held (join-alike made size waker _ _ alike))
     act-shuffled (Poll name waker) =
-        subst (λ (it : Option (Entry (Tag K))). TurnsAlike (act same (Poll name waker) object) (poll_of it (is same name) waker Shuffled)) (sym (found name))
-        (polled name waker (entry_named (is same name) object.line.granted))
+        subst (λ (it : Option (Entry (Tag K))). TurnsAlike (act same (Poll name waker) object) (poll_of it (has_name same name) waker Shuffled)) (sym (found name))
+        (polled name waker (entry_named (has_name same name) object.line.granted))
     act-shuffled (Try made size) =
         either (is_served size object.line) (turned Done _ _ (hold made size object.held) (take_permits-alike size _ _ alike)) (turned Nothing _ _ object.held alike)
-    act-shuffled (Drop name) = dropped name (entry_named (is same name) object.held)
+    act-shuffled (Drop name) = dropped name (entry_named (has_name same name) object.held)
     act-shuffled (Release n) = turned Done _ _ object.held (give_back-alike n _ _ alike)
     act-shuffled (Reduce n) = turned Done _ _ object.held (take_permits-alike n _ _ alike)
     act-shuffled (Drain n) = turned (Drained (drained n object.line)) _ _ object.held (take_permits-alike (drained n object.line) _ _ alike)
-    act-shuffled (Forget permit) = turned Done _ _ (without (is same permit) object.held) alike
-    act-shuffled (Split permit made n) = split_alike (entry_named (is same permit) object.held) permit (tag Permit made) n
-    act-shuffled (Merge kept spent) = merge_alike (entry_named (is same kept) object.held) (entry_named (is same spent) object.held) kept spent
-    act-shuffled (Downgrade writer) = downgrade_alike object.kind (entry_named (is same writer) object.held) writer
+    act-shuffled (Forget permit) = turned Done _ _ (without (has_name same permit) object.held) alike
+    act-shuffled (Split permit made n) = either (nat_le n (size_in (entry_named (has_name same permit) object.held))) (turned Done _ _ _ alike) (turned Nothing _ _ object.held alike)
+    act-shuffled (Merge kept spent) = turned Done _ _ _ alike
+    act-shuffled (Downgrade writer) = turned Done _ _ _ (give_back-alike (size_of object.kind Write - 1) _ _ alike)
     act-shuffled Status = subst (λ (n : ℕ). TurnsAlike (act same Status object) (turn (Figures (available object.line) object.line.free (length object.line.waiting) n (total object.held)) Shuffled))
         (sym (total-alike _ _ alike)) (turned _ _ _ object.held alike)
 

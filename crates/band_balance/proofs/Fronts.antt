@@ -1,14 +1,16 @@
 -- Whom a rule grants and wakes: a front of those that wait, and nobody where nothing is given back.
-use Rattle.std.proofs.Common.{◌≡◌, ℕ, ◌-◌, Bool, true, false, cond, List, [], ◌∷◌, ◌++◌, map, Option, Some, None, pos, ℤ, ◌-ℤ◌, ◌<ℤ◌, ◌≤ℤ◌, int_le, ◌⊎◌, inl, inr, arith, refl, sym, ap, ap₂, ◌∙◌, subst, append_assoc, append-nil}
+use Rattle.std.proofs.Common.{◌≡◌, ℕ, ◌-◌, Bool, true, false, cond, List, [], ◌∷◌, ◌++◌, map, Option, Some, None, pos, ℤ, ◌-ℤ◌, ◌<ℤ◌, ◌≤ℤ◌, int_le, ◌⊎◌, inl, inr, arith, refl, sym, ap, ap₂, ◌∙◌}
+use Rattle.std.proofs.Common.{subst, append_assoc, append-nil}
 use Rattle.std.specs.List.{AllByRecursion, filter}
 use Rattle.std.proofs.lemmas.Bool.{cond_both, or_from, or_parts, or_left, or_right, false≢true}
 use Rattle.std.proofs.lemmas.Int.{ints}
+use Rattle.std.proofs.lemmas.Option.{same_Some}
 use Rattle.std.proofs.lemmas.List.{map-append}
 use Rattle.std.proofs.lemmas.List.Elements.{filter-append}
 use Rattle.std.proofs.lemmas.List.Folds.{list_any-append}
 use Rattle.band_balance.specs.Line.{Entry, Waiting, Line, entry_of, requests, settle, settle_from, give_back, add_permits, entry_named, without, without_waiting, withdraw, cancel}
 use Rattle.band_balance.specs.Object.{Object, Tag}
-use Rattle.band_balance.specs.Rule.{is}
+use Rattle.band_balance.specs.Rule.{has_name}
 use Rattle.band_balance.specs.Laws.{Pairwise, IsOrderly, stands_in, granted_between, GrantsAFront}
 use Rattle.band_balance.proofs.Accounts.{settles_from}
 use Rattle.band_balance.proofs.Held.{TellsApart, other_way}
@@ -114,21 +116,22 @@ module _ {K : Type 0} (same : K → K → Bool) (told : TellsApart same) where
   front_granted granted front rest differ =
       filter-append _ front rest
       ∙ ap₂ (λ (xs ys : List (Waiting (Tag K))). xs ++ ys)
-      (filter_all _ front (all-weaker (IsIn (map entry_of front)) (IsIn (granted ++ map entry_of front)) (λ w is. list_any-append _ granted (map entry_of front) ∙ or_right _ _ is) front (stand_themselves front)))
+      (filter_all _ front (all-weaker (IsIn (map entry_of front)) (IsIn (granted ++ map entry_of front)) (λ w is. list_any-append _ granted (map entry_of front) ∙ or_right _ _ is) front
+      (stand_themselves front)))
       (filter_none _ rest (waits_apart (granted ++ map entry_of front) rest
       (subst Differ (ap (λ (es : List (Entry (Tag K))). granted ++ es) (map-append entry_of front rest) ∙ sym (append_assoc granted (map entry_of front) (map entry_of rest))) differ)))
       ∙ append-nil front
 
   -- a line with nobody to wake, in which a name has one request
   module _ (line : Line (Tag K)) (quiet : line.wakes ≡ []) (differ : Differ (requests line)) where
-    pub record Serves (after : Line (Tag K)) : Type 0 where
+    pub record Serves (means : Tag K → Bool) (after : Line (Tag K)) : Type 0 where
       pub woken : after.wakes ≡ wakers (granted_between same line after)
-      pub front : GrantsAFront same line after
+      pub front : GrantsAFront same means line after
 
     -- the line settles once those that are meant have left
     serves-settle : (settling : Line (Tag K)) (means : Tag K → Bool) → settling.wakes ≡ line.wakes → requests settling ≡ without means (requests line)
         → without_waiting means line.waiting ≡ settling.waiting → without means line.granted ≡ settling.granted
-        → ((w : Waiting (Tag K)) → means w.name ≡ true → NotIn (settle settling).granted w) → Serves (settle settling)
+        → ((w : Waiting (Tag K)) → means w.name ≡ true → NotIn (settle settling).granted w) → Serves means (settle settling)
     serves-settle settling means same_wakes requested waiting granted leavers =
         let once : Differ (settling.granted ++ map entry_of (passed settling.free settling.waiting ++ left settling.free settling.waiting)) =
         subst (λ (ws : List (Waiting (Tag K))). Differ (settling.granted ++ map entry_of ws)) (sym (passed-left settling.free settling.waiting))
@@ -142,7 +145,6 @@ module _ {K : Type 0} (same : K → K → Bool) (told : TellsApart same) where
         record {
           woken = wakes-settle settling ∙ ap₂ (λ (ns : List ℕ) (ws : List (Waiting (Tag K))). ns ++ wakers ws) (same_wakes ∙ quiet) (sym front);
           front = record {
-            left = means;
             requested = requests-settle settling ∙ requested;
             waiting = waiting ∙ sym (passed-left settling.free settling.waiting) ∙ sym (ap₂ (λ (xs ys : List (Waiting (Tag K))). xs ++ ys) front (waiting-settle settling));
             granted = granted-settle settling ∙ sym (ap₂ (λ (es : List (Entry (Tag K))) (ws : List (Waiting (Tag K))). es ++ map entry_of ws) granted front);
@@ -150,7 +152,7 @@ module _ {K : Type 0} (same : K → K → Bool) (told : TellsApart same) where
           };
         }
 
-    serves-give_back : (n : ℕ) → Serves (give_back n line)
+    serves-give_back : (n : ℕ) → Serves (λ tag. false) (give_back n line)
     serves-give_back n =
         serves-settle (add_permits n line) (λ tag. false) refl
         (sym (none_left (λ tag. false) (requests line) (each_always _ (λ e. refl) (requests line))))
@@ -159,43 +161,45 @@ module _ {K : Type 0} (same : K → K → Bool) (told : TellsApart same) where
         (λ w never. absurd (false≢true never))
 
     -- none of the others has the name of the one that leaves
-    others : (name : K) (es : List (Entry (Tag K))) → Differ es → AllByRecursion (λ (e : Entry (Tag K)). same name e.name.name ≡ false) (without (is same name) es)
+    others : (name : K) (es : List (Entry (Tag K))) → Differ es → AllByRecursion (λ (e : Entry (Tag K)). same name e.name.name ≡ false) (without (has_name same name) es)
     others name [] each = tt
     others name (e ∷ es) each =
         cond_both (same name e.name.name) _ _ (AllByRecursion (λ (e : Entry (Tag K)). same name e.name.name ≡ false))
         (λ h. subst (λ n. AllByRecursion (λ (later : Entry (Tag K)). same n later.name.name ≡ false) es) (sym (told.equal name e.name.name h)) each.0)
         (λ h. (h, others name es each.1))
 
-    leaver_not_granted : (name : K) (w : Waiting (Tag K)) → is same name w.name ≡ true → NotIn (cancel (is same name) line).granted w
+    leaver_not_granted : (name : K) (w : Waiting (Tag K)) → has_name same name w.name ≡ true → NotIn (cancel (has_name same name) line).granted w
     leaver_not_granted name w is_it =
-        let after = cancel (is same name) line in
+        let after = cancel (has_name same name) line in
         subst (λ n. stands_in same n after.granted ≡ false) (told.equal name w.name.name is_it)
         (none_stands name after.granted
         (all_of_first _ after.granted (map entry_of after.waiting)
-        (subst (AllByRecursion (λ (e : Entry (Tag K)). same name e.name.name ≡ false)) (sym (requests-cancel (is same name) line)) (others name (requests line) differ))))
+        (subst (AllByRecursion (λ (e : Entry (Tag K)). same name e.name.name ≡ false)) (sym (requests-cancel (has_name same name) line)) (others name (requests line) differ))))
 
     -- one that was granted doesn't wait
-    granted_waits_not : (name : K) (entry : Entry (Tag K)) → entry_named (is same name) line.granted ≡ Some entry → AllByRecursion (λ (w : Waiting (Tag K)). same name w.name.name ≡ false) line.waiting
+    granted_waits_not : (name : K) (entry : Entry (Tag K)) → entry_named (has_name same name) line.granted ≡ Some entry
+        → AllByRecursion (λ (w : Waiting (Tag K)). same name w.name.name ≡ false) line.waiting
     granted_waits_not name entry there =
-        let named = told.equal name entry.name.name (found_is_named (is same name) line.granted entry there) in
+        let named = told.equal name entry.name.name (found_is_named (has_name same name) line.granted entry there) in
         unmapped entry_of _ line.waiting
         (all-weaker _ (λ (e : Entry (Tag K)). same name e.name.name ≡ false)
-        (λ e apart. ap (λ n. same n e.name.name) named ∙ all-found _ (is same name) line.granted entry apart there)
+        (λ e apart. ap (λ n. same n e.name.name) named ∙ all-found _ (has_name same name) line.granted entry apart there)
         (map entry_of line.waiting) (pairwise-cross _ line.granted (map entry_of line.waiting) differ))
 
-    serves-withdraw : (name : K) (found : Option (Entry (Tag K))) → entry_named (is same name) line.granted ≡ found
-        → ((w : Waiting (Tag K)) → is same name w.name ≡ true → NotIn (settle (withdraw found (is same name) line)).granted w) → Serves (settle (withdraw found (is same name) line))
+    serves-withdraw : (name : K) (found : Option (Entry (Tag K))) → entry_named (has_name same name) line.granted ≡ found
+        → ((w : Waiting (Tag K)) → has_name same name w.name ≡ true → NotIn (settle (withdraw found (has_name same name) line)).granted w)
+        → Serves (has_name same name) (settle (withdraw found (has_name same name) line))
     serves-withdraw name (Some entry) there leaver =
-        serves-settle (withdraw (Some entry) (is same name) line) (is same name) refl (requests-poll_granted (is same name) line entry there)
-        (none_left_waiting (is same name) line.waiting (granted_waits_not name entry there)) refl leaver
+        serves-settle (withdraw (Some entry) (has_name same name) line) (has_name same name) refl (requests-poll_granted (has_name same name) line entry there)
+        (none_left_waiting (has_name same name) line.waiting (granted_waits_not name entry there)) refl leaver
     serves-withdraw name None there leaver =
-        serves-settle (withdraw None (is same name) line) (is same name) refl
-        (ap (λ (es : List (Entry (Tag K))). line.granted ++ es) (entries-without_waiting (is same name) line.waiting)
-        ∙ sym (without-append_none (is same name) line.granted (map entry_of line.waiting) there))
-        refl (none_left (is same name) line.granted (all-not_named (is same name) line.granted there)) leaver
+        serves-settle (withdraw None (has_name same name) line) (has_name same name) refl
+        (ap (λ (es : List (Entry (Tag K))). line.granted ++ es) (entries-without_waiting (has_name same name) line.waiting)
+        ∙ sym (without-append_none (has_name same name) line.granted (map entry_of line.waiting) there))
+        refl (none_left (has_name same name) line.granted (all-not_named (has_name same name) line.granted there)) leaver
 
-    serves-cancel : (name : K) → Serves (cancel (is same name) line)
-    serves-cancel name = serves-withdraw name (entry_named (is same name) line.granted) refl (leaver_not_granted name)
+    serves-cancel : (name : K) → Serves (has_name same name) (cancel (has_name same name) line)
+    serves-cancel name = serves-withdraw name (entry_named (has_name same name) line.granted) refl (leaver_not_granted name)
 
     -- nobody is granted where no more are granted than before
     none_granted : (after : Line (Tag K)) → ((w : Waiting (Tag K)) → NotIn line.granted w → NotIn after.granted w) → granted_between same line after ≡ []
@@ -205,12 +209,11 @@ module _ {K : Type 0} (same : K → K → Bool) (told : TellsApart same) where
   pub granted-same : (object : Object (Tag K)) → IsOrderly same object → granted_between same object.line object.line ≡ []
   granted-same object orderly = none_granted object.line orderly.none_woken orderly.once object.line (λ w apart. apart)
 
-  pub front-same : (object : Object (Tag K)) → IsOrderly same object → GrantsAFront same object.line object.line
+  pub front-same : (object : Object (Tag K)) → IsOrderly same object → GrantsAFront same (λ tag. false) object.line object.line
   front-same object orderly =
       let none = granted-same object orderly in
       let gone = none_left (λ (tag : Tag K). false) object.line.granted (each_always _ (λ e. refl) object.line.granted) in
       record {
-        left = λ tag. false;
         requested = sym (none_left (λ tag. false) (requests object.line) (each_always _ (λ e. refl) (requests object.line)));
         waiting = none_left_waiting (λ tag. false) object.line.waiting (each_always _ (λ w. refl) object.line.waiting) ∙ ap (λ (ws : List (Waiting (Tag K))). ws ++ object.line.waiting) (sym none);
         granted = sym (ap₂ (λ (es : List (Entry (Tag K))) (ws : List (Waiting (Tag K))). es ++ map entry_of ws) gone none ∙ append-nil object.line.granted);
@@ -219,27 +222,32 @@ module _ {K : Type 0} (same : K → K → Bool) (told : TellsApart same) where
 
   -- What an object's rule wakes and grants.
   module _ (object : Object (Tag K)) (orderly : IsOrderly same object) where
-    pub record Wakes (back : Bool) (line : Line (Tag K)) : Type 0 where
+    pub record Wakes (back : Option (Tag K → Bool)) (line : Line (Tag K)) : Type 0 where
       pub granted : line.wakes ≡ wakers (granted_between same object.line line)
-      pub nobody : back ≡ false → line.wakes ≡ []
-      pub front : back ≡ true → GrantsAFront same object.line line
+      pub nobody : back ≡ None → line.wakes ≡ []
+      pub front : (left : Tag K → Bool) → back ≡ Some left → GrantsAFront same left object.line line
 
-    quiet_turn : (line : Line (Tag K)) → line.wakes ≡ object.line.wakes → ((w : Waiting (Tag K)) → NotIn object.line.granted w → NotIn line.granted w) → Wakes false line
+    quiet_turn : (line : Line (Tag K)) → line.wakes ≡ object.line.wakes → ((w : Waiting (Tag K)) → NotIn object.line.granted w → NotIn line.granted w) → Wakes None line
     quiet_turn line same_wakes fewer = record {
       granted = same_wakes ∙ orderly.none_woken ∙ sym (ap wakers (none_granted object.line orderly.none_woken orderly.once line fewer));
       nobody = λ _. same_wakes ∙ orderly.none_woken;
-      front = λ impossible. cc;
+      front = λ left impossible. cc;
     }
 
-    serving : (line : Line (Tag K)) → Serves object.line orderly.none_woken orderly.once line → Wakes true line
-    serving line serves = record { granted = serves.woken; nobody = λ impossible. cc; front = λ _. serves.front }
+    serving : (line : Line (Tag K)) (means : Tag K → Bool) → Serves object.line orderly.none_woken orderly.once means line → Wakes (Some means) line
+    serving line means serves = record {
+      granted = serves.woken;
+      nobody = λ impossible. cc;
+      front = λ left is. subst (λ m. GrantsAFront same m object.line line) (same_Some means left is) serves.front;
+    }
 
-    pub wakes-by : {back : Bool} {came gone : ℕ} {who : Option K} {line : Line (Tag K)} {held : List (Entry (Tag K))} → Becomes same object back came gone who line held → Wakes back line
+    pub wakes-by : {back : Option (Tag K → Bool)} {came gone : ℕ} {who : Option K} {line : Line (Tag K)} {held : List (Entry (Tag K))} → Becomes same object back came gone who line held
+        → Wakes back line
     wakes-by (receives name entry there) =
         quiet_turn _ refl
-        (λ w apart. none_stands w.name.name _ (all-without _ (is same name) object.line.granted (stands_none w.name.name object.line.granted apart)))
-    wakes-by (returns name entry there) = serving _ (serves-give_back object.line orderly.none_woken orderly.once entry.size)
-    wakes-by (ends name) = serving _ (serves-cancel object.line orderly.none_woken orderly.once name)
-    wakes-by (comes n fits under) = serving _ (serves-give_back object.line orderly.none_woken orderly.once n)
-    wakes-by (lowers name max kind it) = serving _ (serves-give_back object.line orderly.none_woken orderly.once (max - 1))
+        (λ w apart. none_stands w.name.name _ (all-without _ (has_name same name) object.line.granted (stands_none w.name.name object.line.granted apart)))
+    wakes-by (returns name entry there) = serving _ _ (serves-give_back object.line orderly.none_woken orderly.once entry.size)
+    wakes-by (ends name) = serving _ _ (serves-cancel object.line orderly.none_woken orderly.once name)
+    wakes-by (comes n fits under) = serving _ _ (serves-give_back object.line orderly.none_woken orderly.once n)
+    wakes-by (lowers name max kind it) = serving _ _ (serves-give_back object.line orderly.none_woken orderly.once (max - 1))
     wakes-by by = quiet_turn _ refl (λ w apart. apart)

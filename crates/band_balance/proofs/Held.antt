@@ -5,7 +5,7 @@ use Rattle.std.proofs.lemmas.Bool.{cond-true, cond-false, false≢true, false_fr
 use Rattle.std.proofs.lemmas.Option.{same_Some, none-some}
 use Rattle.band_balance.specs.Line.{Entry, entry_named, total, without}
 use Rattle.band_balance.specs.Object.{Tag, change}
-use Rattle.band_balance.specs.Rule.{is}
+use Rattle.band_balance.specs.Rule.{has_name}
 use Rattle.band_balance.proofs.Settle.{total-append, total-cons}
 
 -- either way a test goes
@@ -27,7 +27,7 @@ module _ {K : Type 0} (same : K → K → Bool) (told : TellsApart same) where
   pub other_way : (a b : K) → same a b ≡ false → same b a ≡ false
   other_way a b apart = false_from_ne_true (same b a) (λ h. false≢true (sym apart ∙ ap (λ c. same c b) (sym (told.equal b a h)) ∙ told.itself b))
 
-  pub names_apart : (a b : K) → same a b ≡ false → (es : List (Entry (Tag K))) → AllByRecursion (λ (e : Entry (Tag K)). is same b e.name ≡ true → is same a e.name ≡ false) es
+  pub names_apart : (a b : K) → same a b ≡ false → (es : List (Entry (Tag K))) → AllByRecursion (λ (e : Entry (Tag K)). has_name same b e.name ≡ true → has_name same a e.name ≡ false) es
   names_apart a b apart [] = tt
   names_apart a b apart (e ∷ es) = (not_both a b e.name.name apart, names_apart a b apart es)
 

@@ -4,7 +4,7 @@ use Rattle.std.specs.List.{AllByRecursion}
 use Rattle.std.proofs.lemmas.Bool.{cond_both, false≢true}
 use Rattle.band_balance.specs.Line.{Entry, Line, requests, entry_of, drained, without}
 use Rattle.band_balance.specs.Object.{Object, Kind, Semaphore, Mutex, ReaderWriter, Mode, Permit, Lock, Read, Write, Tag, is_of, change}
-use Rattle.band_balance.specs.Rule.{Fits, is, IsFresh}
+use Rattle.band_balance.specs.Rule.{Fits, has_name, IsFresh}
 use Rattle.band_balance.specs.Laws.{Pairwise, IsOrderly}
 use Rattle.band_balance.specs.Settled.{HeadWaits}
 use Rattle.band_balance.proofs.Held.{TellsApart, other_way, all-change}
@@ -49,12 +49,13 @@ pub data Queues {K : Type 0} (same : K → K → Bool) (object : Object (Tag K))
       → Queues same object (Some made.name) (requests object.line ++ record { name = made; size = size } ∷ [])
 
 module _ {K : Type 0} (same : K → K → Bool) (object : Object (Tag K)) where
-  pub queues : {back : Bool} {came gone : ℕ} {who : Option K} {line : Line (Tag K)} {held : List (Entry (Tag K))} → Becomes same object back came gone who line held → Queues same object who (requests line)
+  pub queues : {back : Option (Tag K → Bool)} {came gone : ℕ} {who : Option K} {line : Line (Tag K)} {held : List (Entry (Tag K))} → Becomes same object back came gone who line held
+      → Queues same object who (requests line)
   queues (joins made size waker waits fresh fits) = rw (requests-join made size waker object.line) (joined made size fresh fits)
-  queues (receives name entry there) = rw (requests-poll_granted (is same name) object.line entry there) (leaves (is same name))
-  queues (rewakes name waker) = rw (requests-poll_waiting (is same name) waker object.line) nobody
+  queues (receives name entry there) = rw (requests-poll_granted (has_name same name) object.line entry there) (leaves (has_name same name))
+  queues (rewakes name waker) = rw (requests-poll_waiting (has_name same name) waker object.line) nobody
   queues (returns name entry there) = rw (requests-give_back entry.size object.line) nobody
-  queues (ends name) = rw (requests-cancel (is same name) object.line) (leaves (is same name))
+  queues (ends name) = rw (requests-cancel (has_name same name) object.line) (leaves (has_name same name))
   queues (comes n fits under) = rw (requests-give_back n object.line) nobody
   queues (lowers name max kind it) = rw (requests-give_back (max - 1) object.line) nobody
   queues by = nobody
@@ -86,41 +87,42 @@ module _ {K : Type 0} (same : K → K → Bool) (object : Object (Tag K)) where
     once-by (joined made size fresh fits) =
         pairwise-push _ (requests object.line) (record { name = made; size = size }) orderly.once
         (all-weaker _ (λ (e : Entry (Tag K)). same e.name.name made.name ≡ false) (λ e apart. other_way same told made.name e.name.name apart) (requests object.line)
-        (all-not_named (is same made.name) (requests object.line) fresh.asked))
+        (all-not_named (has_name same made.name) (requests object.line) fresh.asked))
 
     -- where one is held in another size, or in another mode
-    resized_fit : (name : K) (size : ℕ) → is_of object.kind Permit ≡ true → EachFits (change (is same name) (λ e. record e { size = size }) object.held)
+    resized_fit : (name : K) (size : ℕ) → is_of object.kind Permit ≡ true → EachFits (change (has_name same name) (λ e. record e { size = size }) object.held)
     resized_fit name size permits =
-        all-change (is same name) (λ e. record e { size = size }) _ _ object.held (λ e fits means. size_free object.kind e.name.mode e.size size fits permits) orderly.each_held
-        (all-without _ (is same name) object.held orderly.each_held)
+        all-change (has_name same name) (λ e. record e { size = size }) _ _ object.held (λ e fits means. size_free object.kind e.name.mode e.size size fits permits) orderly.each_held
+        (all-without _ (has_name same name) object.held orderly.each_held)
 
-    held_fits : {back : Bool} {came gone : ℕ} {who : Option K} {line : Line (Tag K)} {held : List (Entry (Tag K))} → Becomes same object back came gone who line held → EachFits held
+    held_fits : {back : Option (Tag K → Bool)} {came gone : ℕ} {who : Option K} {line : Line (Tag K)} {held : List (Entry (Tag K))} → Becomes same object back came gone who line held → EachFits held
     held_fits (takes made size served fits) = all_of_both _ object.held _ orderly.each_held (fits, tt)
     held_fits (receives name entry there) =
         all_of_both _ object.held _ orderly.each_held
-        (all-found _ (is same name) object.line.granted entry (all_of_first _ object.line.granted (map entry_of object.line.waiting) orderly.each_request) there, tt)
-    held_fits (returns name entry there) = all-without _ (is same name) object.held orderly.each_held
-    held_fits (forgets name it) = all-without _ (is same name) object.held orderly.each_held
+        (all-found _ (has_name same name) object.line.granted entry (all_of_first _ object.line.granted (map entry_of object.line.waiting) orderly.each_request) there, tt)
+    held_fits (returns name entry there) = all-without _ (has_name same name) object.held orderly.each_held
+    held_fits (forgets name it) = all-without _ (has_name same name) object.held orderly.each_held
     held_fits (splits name made n it enough) = all_of_both _ _ _ (resized_fit name (it.entry.size - n) it.fits) (it.fits, tt)
-    held_fits (merges kept spent it other apart) = all-without _ (is same spent) _ (resized_fit kept (it.entry.size + other.entry.size) it.fits)
+    held_fits (merges kept spent it other apart) = all-without _ (has_name same spent) _ (resized_fit kept (it.entry.size + other.entry.size) it.fits)
     held_fits (lowers name max kind it) =
-        all-change (is same name) _ _ _ object.held (λ e fits means. rw kind (refl, refl)) orderly.each_held (all-without _ (is same name) object.held orderly.each_held)
+        all-change (has_name same name) _ _ _ object.held (λ e fits means. rw kind (refl, refl)) orderly.each_held (all-without _ (has_name same name) object.held orderly.each_held)
     held_fits by = orderly.each_held
 
-    heads : {back : Bool} {came gone : ℕ} {who : Option K} {line : Line (Tag K)} {held : List (Entry (Tag K))} → Becomes same object back came gone who line held → HeadWaits line.free line.waiting
+    heads : {back : Option (Tag K → Bool)} {came gone : ℕ} {who : Option K} {line : Line (Tag K)} {held : List (Entry (Tag K))} → Becomes same object back came gone who line held
+        → HeadWaits line.free line.waiting
     heads (takes made size served fits) = HeadWaits-take_permits size object.line orderly.head_waits
     heads (joins made size waker waits fresh fits) = HeadWaits-join made size waker object.line orderly.head_waits waits
-    heads (receives name entry there) = HeadWaits-poll_granted (is same name) object.line orderly.head_waits
-    heads (rewakes name waker) = HeadWaits-poll_waiting (is same name) waker object.line orderly.head_waits
+    heads (receives name entry there) = HeadWaits-poll_granted (has_name same name) object.line orderly.head_waits
+    heads (rewakes name waker) = HeadWaits-poll_waiting (has_name same name) waker object.line orderly.head_waits
     heads (returns name entry there) = HeadWaits-give_back entry.size object.line
-    heads (ends name) = HeadWaits-cancel (is same name) object.line
+    heads (ends name) = HeadWaits-cancel (has_name same name) object.line
     heads (comes n fits under) = HeadWaits-give_back n object.line
     heads (goes n fits over) = HeadWaits-take_permits n object.line orderly.head_waits
     heads (drains n fits) = HeadWaits-take_permits (drained n object.line) object.line orderly.head_waits
     heads (lowers name max kind it) = HeadWaits-give_back (max - 1) object.line
     heads by = orderly.head_waits
 
-    pub orderly-by : {back : Bool} {came gone : ℕ} {who : Option K} {line : Line (Tag K)} {held : List (Entry (Tag K))} → Becomes same object back came gone who line held
+    pub orderly-by : {back : Option (Tag K → Bool)} {came gone : ℕ} {who : Option K} {line : Line (Tag K)} {held : List (Entry (Tag K))} → Becomes same object back came gone who line held
         → IsOrderly same (record object { line = record line { wakes = [] }; held = held })
     orderly-by by = record {
       none_woken = refl;

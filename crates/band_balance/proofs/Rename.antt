@@ -2,7 +2,8 @@
 use Rattle.std.proofs.Common.{◌≡◌, ℕ, ◌+◌, fold, Bool, true, false, cond, List, [], ◌∷◌, ◌++◌, map, ℤ, pos, ◌-ℤ◌, int_le, Option, Some, None, option_map, refl, ap, ap₂, sym, ◌∙◌, ◌==◌, ◌||◌, ◌&&◌}
 use Rattle.std.specs.List.{AllByRecursion}
 use Rattle.std.proofs.lemmas.List.{map-append}
-use Rattle.band_balance.specs.Line.{Entry, Waiting, Line, entry_of, requests, total, nobody_waits, settle_from, settle, is_served, add_permits, give_back, join, available, drained, entry_named, without, without_waiting, leave_waker, poll_granted, poll_waiting, withdraw, cancel, renamed, renamed_waiting, rename}
+use Rattle.band_balance.specs.Line.{Entry, Waiting, Line, entry_of, requests, total, nobody_waits, settle_from, settle, is_served, add_permits, give_back, join, available, drained, entry_named}
+use Rattle.band_balance.specs.Line.{without, without_waiting, leave_waker, poll_granted, poll_waiting, withdraw, cancel, renamed, renamed_waiting, rename}
 
 -- a function goes into both branches of an `if`
 pub through_if : {A B : Type 0} (h : A → B) (b b' : Bool) (x y : A) (x' y' : B) → b' ≡ b → x' ≡ h x → y' ≡ h y → cond b' x' y' ≡ h (cond b x y)

@@ -6,7 +6,8 @@ use Rattle.std.proofs.lemmas.List.{map-append}
 use Rattle.std.proofs.lemmas.List.Folds.{find-append}
 use Rattle.std.proofs.lemmas.List.Sums.{sum_by-append, sum_by-cons}
 use Rattle.std.proofs.lemmas.Bool.{cond_both, true≢false}
-use Rattle.band_balance.specs.Line.{Entry, Waiting, Line, entry_of, requests, add_permits, give_back, join, entry_named, without, without_waiting, leave_waker, poll_granted, poll_waiting, withdraw, cancel}
+use Rattle.band_balance.specs.Line.{Entry, Waiting, Line, entry_of, requests, add_permits, give_back, join, entry_named, without, without_waiting, leave_waker, poll_granted, poll_waiting, withdraw}
+use Rattle.band_balance.specs.Line.{cancel}
 use Rattle.band_balance.proofs.Rename.{all_of_first, all_of_second, all_of_both}
 use Rattle.band_balance.proofs.Settle.{requests-settle}
 

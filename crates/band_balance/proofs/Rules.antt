@@ -1,39 +1,41 @@
 -- The laws of an object, for any comparison that tells names apart.
 use Rattle.std.proofs.Common.{◌≡◌, ℕ, ◌≤◌, Bool, false, true, [], pos, neg_ℤ, ◌+ℤ◌, ◌≤ℤ◌, refl, sym, subst, arith}
 use Rattle.std.specs.Str.{bytes_eq}
+use Rattle.std.proofs.lemmas.Bool.{cond-true, cond-false}
 use Rattle.std.proofs.lemmas.Int.{ints}
 use Rattle.std.proofs.lemmas.Slice.Eq.{bytes_eq-Decides}
 use Rattle.band_balance.specs.Line.{requests, u64_max}
-use Rattle.band_balance.specs.Object.{Object, Turn, Kind, Tag, new_semaphore, new_mutex, new_reader_writer}
-use Rattle.band_balance.specs.Rule.{Rule, IsAllowed, act, brought, removed, joiner, may_grant}
-use Rattle.band_balance.specs.Laws.{permits, IsWithin, LetsIn, KeepsShares, IsOrderly, granted_between, GrantsAFront}
+use Rattle.band_balance.specs.Object.{Object, Turn, Kind, Semaphore, Mutex, ReaderWriter, Tag, new_object}
+use Rattle.band_balance.specs.Rule.{Rule, IsAllowed, act, leaver, brought, removed, joiner, may_grant}
+use Rattle.band_balance.specs.Laws.{permits, IsWithin, HasAShare, KeepsShares, IsOrderly, granted_between, GrantsAFront}
 use Rattle.band_balance.proofs.Accounts.{accounts}
 use Rattle.band_balance.proofs.Fronts.{Wakes, wakes-by}
 use Rattle.band_balance.proofs.Held.{TellsApart}
 use Rattle.band_balance.proofs.Orderly.{Queues, queues, orderly-by}
 use Rattle.band_balance.proofs.Shares.{within-by, shares-by}
 use Rattle.band_balance.proofs.Settle.{wakers}
-use Rattle.band_balance.proofs.Turns.{TurnsBy, turns_by}
+use Rattle.band_balance.proofs.Turns.{TurnsBy, turns_by, gives}
 
 module _ {K : Type 0} (same : K → K → Bool) (told : TellsApart same) (rule : Rule K) (object : Object (Tag K)) (allowed : IsAllowed same rule object) where
   by : TurnsBy same object rule
   by = turns_by same object rule allowed
 
   -- what holds of what the rule becomes holds of its turn
-  of_turn : (P : Turn (Tag K) → Type 0) → P (record { answer = by.answer; woken = by.line.wakes; object = record object { line = record by.line { wakes = [] }; held = by.held } }) → P (act same rule object)
+  of_turn : (P : Turn (Tag K) → Type 0) → P (record { answer = by.answer; woken = by.line.wakes; object = record object { line = record by.line { wakes = [] }; held = by.held } })
+      → P (act same rule object)
   of_turn P is = subst P (sym by.turns) is
 
-  pub adds_up-act : LetsIn object.kind → permits (act same rule object).object +ℤ pos (removed same rule object) ≡ permits object +ℤ pos (brought rule)
+  pub adds_up-act : HasAShare object.kind → permits (act same rule object).object +ℤ pos (removed same rule object) ≡ permits object +ℤ pos (brought rule)
   adds_up-act lets =
       of_turn (λ t. permits t.object +ℤ pos (removed same rule object) ≡ permits object +ℤ pos (brought rule)) (accounts same told object lets by.becomes).sum
 
   pub orderly-act : IsOrderly same object → IsOrderly same (act same rule object).object
   orderly-act orderly = of_turn (λ t. IsOrderly same t.object) (orderly-by same object told orderly by.becomes)
 
-  pub within-act : LetsIn object.kind → IsWithin object → IsWithin (act same rule object).object
+  pub within-act : HasAShare object.kind → IsWithin object → IsWithin (act same rule object).object
   within-act lets within = of_turn (λ t. IsWithin t.object) (within-by same told object lets within by.becomes)
 
-  pub shares-act : LetsIn object.kind → KeepsShares object → KeepsShares (act same rule object).object
+  pub shares-act : HasAShare object.kind → KeepsShares object → KeepsShares (act same rule object).object
   shares-act lets has = of_turn (λ t. KeepsShares t.object) (shares-by same told object lets has by.becomes)
 
   -- it is an object of the same kind
@@ -44,20 +46,20 @@ module _ {K : Type 0} (same : K → K → Bool) (told : TellsApart same) (rule :
   queues-act = of_turn (λ t. Queues same object (joiner rule object) (requests t.object.line)) (queues same object by.becomes)
 
   module _ (orderly : IsOrderly same object) where
-    wakes : Wakes same told object orderly (may_grant rule) by.line
+    wakes : Wakes same told object orderly (gives same rule object) by.line
     wakes = wakes-by same told object orderly by.becomes
 
     pub woken-act : (act same rule object).woken ≡ wakers (granted_between same object.line (act same rule object).object.line)
     woken-act = of_turn (λ t. t.woken ≡ wakers (granted_between same object.line t.object.line)) wakes.granted
 
     pub nobody-act : may_grant rule ≡ false → (act same rule object).woken ≡ []
-    nobody-act none = of_turn (λ t. t.woken ≡ []) (wakes.nobody none)
+    nobody-act none = of_turn (λ t. t.woken ≡ []) (wakes.nobody (cond-false _ _ _ none))
 
-    pub front-act : may_grant rule ≡ true → GrantsAFront same object.line (act same rule object).object.line
-    front-act gives = of_turn (λ t. GrantsAFront same object.line t.object.line) (still (wakes.front gives))
+    pub front-act : may_grant rule ≡ true → GrantsAFront same (leaver same rule object) object.line (act same rule object).object.line
+    front-act gives_back = of_turn (λ t. GrantsAFront same (leaver same rule object) object.line t.object.line) (still (wakes.front _ (cond-true _ _ _ gives_back)))
       where
-        still : GrantsAFront same object.line by.line → GrantsAFront same object.line (record by.line { wakes = [] })
-        still front = record { left = front.left; requested = front.requested; waiting = front.waiting; granted = front.granted; owed = front.owed }
+        still : GrantsAFront same (leaver same rule object) object.line by.line → GrantsAFront same (leaver same rule object) object.line (record by.line { wakes = [] })
+        still front = record { requested = front.requested; waiting = front.waiting; granted = front.granted; owed = front.owed }
 
 -- A new object is in order, within the bounds, and has all of its shares.
 pub record NewObject {K : Type 0} (same : K → K → Bool) (object : Object (Tag K)) : Type 0 where
@@ -72,17 +74,17 @@ module _ {K : Type 0} (same : K → K → Bool) where
   adds_up : (n : ℕ) → pos n +ℤ pos 0 ≡ pos n
   adds_up n = omega (arith, ints)
 
-  pub new_semaphore_is : (n : ℕ) → NewObject same (new_semaphore n)
+  pub new_semaphore_is : (n : ℕ) → NewObject same (new_object Semaphore n)
   new_semaphore_is n = record { nobody = refl; orderly = record { none_woken = refl; head_waits = tt; once = tt; each_request = tt; each_held = tt }; keeps_shares = tt }
 
-  pub new_mutex_is : NewObject same new_mutex
+  pub new_mutex_is : NewObject same (new_object Mutex 1)
   new_mutex_is = record {
     nobody = refl;
     orderly = record { none_woken = refl; head_waits = tt; once = tt; each_request = tt; each_held = tt };
     keeps_shares = record { none_owed = none_owed 1; adds_up = adds_up 1 };
   }
 
-  pub new_reader_writer_is : (max : ℕ) → NewObject same (new_reader_writer max)
+  pub new_reader_writer_is : (max : ℕ) → NewObject same (new_object (ReaderWriter max) max)
   new_reader_writer_is max = record {
     nobody = refl;
     orderly = record { none_woken = refl; head_waits = tt; once = tt; each_request = tt; each_held = tt };

@@ -1,9 +1,11 @@
 -- What a line settles to: a front of those that wait is granted, and the first that is left waits for more than is free.
-use Rattle.std.proofs.Common.{◌≡◌, ℕ, ◌==◌, ◌&&◌, Option, Some, None, ◌+◌, Bool, true, false, cond, List, [], ◌∷◌, ◌++◌, map, ℤ, pos, ◌+ℤ◌, ◌-ℤ◌, ◌<ℤ◌, int_le, refl, ap, sym, ◌∙◌, arith, append_assoc, append-nil}
+use Rattle.std.proofs.Common.{◌≡◌, ℕ, ◌==◌, ◌&&◌, Option, Some, None, ◌+◌, Bool, true, false, cond, List, [], ◌∷◌, ◌++◌, map, ℤ, pos, ◌+ℤ◌, ◌-ℤ◌, ◌<ℤ◌, int_le, refl, ap, sym, ◌∙◌, arith, append_assoc}
+use Rattle.std.proofs.Common.{append-nil}
 use Rattle.std.proofs.lemmas.Int.{ints}
 use Rattle.std.proofs.lemmas.Bool.{cond_both, or_parts}
 use Rattle.std.proofs.lemmas.List.Sums.{sum_by-append, sum_by-cons}
-use Rattle.band_balance.specs.Line.{Entry, Waiting, Line, entry_of, requests, total, settle_from, settle, give_back, take_permits, add_permits, entry_named, without, cancel, withdraw, is_served, nobody_waits, join, poll_granted, poll_waiting, leave_waker}
+use Rattle.band_balance.specs.Line.{Entry, Waiting, Line, entry_of, requests, total, settle_from, settle, give_back, take_permits, add_permits, entry_named, without, cancel, withdraw, is_served}
+use Rattle.band_balance.specs.Line.{nobody_waits, join, poll_granted, poll_waiting, leave_waker}
 use Rattle.band_balance.specs.Settled.{HeadWaits}
 
 -- what a settled head says, as a test and as a fact
@@ -80,7 +82,8 @@ module _ {N : Type 0} where
       go : (b : Bool) →
           settle_from (free -ℤ pos first.size) rest (granted ++ entry_of first ∷ []) (wakes ++ first.waker ∷ [])
           ≡ settled (free -ℤ pos first.size) (passed (free -ℤ pos first.size) rest) (left (free -ℤ pos first.size) rest) (granted ++ entry_of first ∷ []) (wakes ++ first.waker ∷ []) →
-          cond b (settle_from (free -ℤ pos first.size) rest (granted ++ entry_of first ∷ []) (wakes ++ first.waker ∷ [])) (record { free = free; waiting = first ∷ rest; granted = granted; wakes = wakes })
+          cond b (settle_from (free -ℤ pos first.size) rest (granted ++ entry_of first ∷ []) (wakes ++ first.waker ∷ []))
+          (record { free = free; waiting = first ∷ rest; granted = granted; wakes = wakes })
           ≡ settled free (cond b (first ∷ passed (free -ℤ pos first.size) rest) []) (cond b (left (free -ℤ pos first.size) rest) (first ∷ rest)) granted wakes
       go true h = h ∙ settled_more free first (passed (free -ℤ pos first.size) rest) (left (free -ℤ pos first.size) rest) granted wakes
       go false h = settled_none free (first ∷ rest) granted wakes

@@ -1,12 +1,13 @@
 -- The bounds of an object, and what a lock has in all: who has it whole is alone.
-use Rattle.std.proofs.Common.{◌≡◌, ℕ, ◌+◌, ◌<◌, ◌≤◌, Bool, true, false, List, [], ◌∷◌, ◌++◌, length, map, Option, IfSome, ℤ, pos, neg_ℤ, ◌+ℤ◌, ◌≤ℤ◌, int_lt, ◌⊎◌, inl, inr, refl, sym, ap, ◌∙◌, subst, arith, append_assoc}
+use Rattle.std.proofs.Common.{◌≡◌, ℕ, ◌+◌, ◌<◌, ◌≤◌, Bool, true, false, List, [], ◌∷◌, ◌++◌, length, map, Option, IfSome, ℤ, pos, neg_ℤ, ◌+ℤ◌, ◌≤ℤ◌, int_lt, ◌⊎◌, inl, inr, refl, sym, ap, ◌∙◌, subst}
+use Rattle.std.proofs.Common.{arith, append_assoc}
 use Rattle.std.specs.List.{AllByRecursion}
 use Rattle.std.proofs.lemmas.Int.{ints}
 use Rattle.std.proofs.lemmas.Bool.{true≢false}
 use Rattle.band_balance.specs.Line.{Entry, Line, total, entry_of, u64_max}
 use Rattle.band_balance.specs.Object.{Object, Kind, Semaphore, Mutex, ReaderWriter, Mode, Permit, Lock, Read, Write, Tag, is_of, size_of}
 use Rattle.band_balance.specs.Rule.{Fits}
-use Rattle.band_balance.specs.Laws.{permits, in_hand, IsWithin, shares_of, LetsIn, HasShares, KeepsShares, ExclusiveAs, IsExclusive, IsOrderly}
+use Rattle.band_balance.specs.Laws.{permits, in_hand, IsWithin, share_count, HasAShare, HasShares, KeepsShares, ExclusiveAs, IsExclusive, IsOrderly}
 use Rattle.band_balance.proofs.Accounts.{Accounts, Owes, hand, accounts}
 use Rattle.band_balance.proofs.Held.{TellsApart, total-push}
 use Rattle.band_balance.proofs.Rename.{all_of_first, all_of_both}
@@ -21,13 +22,14 @@ has_room z g h n under = grind (arith, ints)
 none_comes : (z : ℤ) → z ≤ℤ pos u64_max → (z +ℤ pos 0) ≤ℤ pos u64_max
 none_comes z small = omega (arith, ints)
 
-module _ {K : Type 0} (same : K → K → Bool) (told : TellsApart same) (object : Object (Tag K)) (lets : LetsIn object.kind) where
-  room : IsWithin object → {back : Bool} {came gone : ℕ} {who : Option K} {line : Line (Tag K)} {held : List (Entry (Tag K))} → Becomes same object back came gone who line held
+module _ {K : Type 0} (same : K → K → Bool) (told : TellsApart same) (object : Object (Tag K)) (lets : HasAShare object.kind) where
+  room : IsWithin object → {back : Option (Tag K → Bool)} {came gone : ℕ} {who : Option K} {line : Line (Tag K)} {held : List (Entry (Tag K))} → Becomes same object back came gone who line held
       → (permits object +ℤ pos came) ≤ℤ pos u64_max
   room is (comes n fits under) = has_room object.line.free (total object.line.granted) (total object.held) n under
   room is by = none_comes (permits object) is.in_all
 
-  pub within-by : IsWithin object → {back : Bool} {came gone : ℕ} {who : Option K} {line : Line (Tag K)} {held : List (Entry (Tag K))} → Becomes same object back came gone who line held
+  pub within-by : IsWithin object → {back : Option (Tag K → Bool)} {came gone : ℕ} {who : Option K} {line : Line (Tag K)} {held : List (Entry (Tag K))}
+      → Becomes same object back came gone who line held
       → IsWithin (record object { line = record line { wakes = [] }; held = held })
   within-by is {came = came} {gone = gone} {line = line} {held = held} by = record { in_hand = in_hand_by sums.debt; in_all = all; owed = owed_by sums.debt }
     where
@@ -53,7 +55,7 @@ module _ {K : Type 0} (same : K → K → Bool) (told : TellsApart same) (object
       owed_by (inr (inr owed, less)) = owed.1
 
   -- nothing is brought to a lock, and nothing taken away for good
-  only_moves : is_of object.kind Permit ≡ false → {back : Bool} {came gone : ℕ} {who : Option K} {line : Line (Tag K)} {held : List (Entry (Tag K))}
+  only_moves : is_of object.kind Permit ≡ false → {back : Option (Tag K → Bool)} {came gone : ℕ} {who : Option K} {line : Line (Tag K)} {held : List (Entry (Tag K))}
       → Becomes same object back came gone who line held → (came ≡ 0) × (gone ≡ 0)
   only_moves lock (comes n fits under) = absurd (true≢false (sym fits ∙ lock))
   only_moves lock (goes n fits over) = absurd (true≢false (sym fits ∙ lock))
@@ -61,7 +63,8 @@ module _ {K : Type 0} (same : K → K → Bool) (told : TellsApart same) (object
   only_moves lock (forgets name it) = absurd (true≢false (sym it.fits ∙ lock))
   only_moves lock by = (refl, refl)
 
-  shares_kept : is_of object.kind Permit ≡ false → (shares : ℕ) → HasShares object shares → {back : Bool} {came gone : ℕ} {who : Option K} {line : Line (Tag K)} {held : List (Entry (Tag K))}
+  shares_kept : is_of object.kind Permit ≡ false → (shares : ℕ) → HasShares object shares
+      → {back : Option (Tag K → Bool)} {came gone : ℕ} {who : Option K} {line : Line (Tag K)} {held : List (Entry (Tag K))}
       → Becomes same object back came gone who line held → HasShares (record object { line = record line { wakes = [] }; held = held }) shares
   shares_kept lock shares has {came = came} {gone = gone} {line = line} {held = held} by = record { none_owed = unowed sums.debt; adds_up = whole sums.sum }
     where
@@ -81,11 +84,12 @@ module _ {K : Type 0} (same : K → K → Bool) (told : TellsApart same) (object
           same_sum : (z : ℤ) (h : ℕ) (s : ℤ) → z +ℤ pos h +ℤ pos 0 ≡ s +ℤ pos 0 → z +ℤ pos h ≡ s
           same_sum z h s e = omega (arith, ints)
 
-  pub shares-by : KeepsShares object → {back : Bool} {came gone : ℕ} {who : Option K} {line : Line (Tag K)} {held : List (Entry (Tag K))} → Becomes same object back came gone who line held
+  pub shares-by : KeepsShares object → {back : Option (Tag K → Bool)} {came gone : ℕ} {who : Option K} {line : Line (Tag K)} {held : List (Entry (Tag K))}
+      → Becomes same object back came gone who line held
       → KeepsShares (record object { line = record line { wakes = [] }; held = held })
   shares-by is {line = line} {held = held} by = go object.kind refl is
     where
-      go : (kind : Kind) → kind ≡ object.kind → IfSome (shares_of kind) (HasShares object) → IfSome (shares_of kind) (HasShares (record object { line = record line { wakes = [] }; held = held }))
+      go : (kind : Kind) → kind ≡ object.kind → IfSome (share_count kind) (HasShares object) → IfSome (share_count kind) (HasShares (record object { line = record line { wakes = [] }; held = held }))
       go Semaphore kind has = tt
       go Mutex kind has = shares_kept (ap (λ k. is_of k Permit) (sym kind)) 1 has by
       go (ReaderWriter max) kind has = shares_kept (ap (λ k. is_of k Permit) (sym kind)) max has by
@@ -144,10 +148,10 @@ module _ {N : Type 0} where
 
 -- What fits a lock asks for something, and a write for all of it.
 module _ {K : Type 0} where
-  asks_some : (kind : Kind) → is_of kind Permit ≡ false → LetsIn kind → (e : Entry (Tag K)) → Fits kind e.name.mode e.size → 0 < e.size
+  asks_some : (kind : Kind) → is_of kind Permit ≡ false → HasAShare kind → (e : Entry (Tag K)) → Fits kind e.name.mode e.size → 0 < e.size
   asks_some kind lock lets e fits = go e.name.mode fits
     where
-      sized : (kind : Kind) (mode : Mode) → is_of kind Permit ≡ false → LetsIn kind → is_of kind mode ≡ true → 0 < size_of kind mode
+      sized : (kind : Kind) (mode : Mode) → is_of kind Permit ≡ false → HasAShare kind → is_of kind mode ≡ true → 0 < size_of kind mode
       sized Semaphore mode lock lets is = absurd (true≢false lock)
       sized Mutex mode lock lets is = omega arith
       sized (ReaderWriter max) Write lock lets is = lets
@@ -164,7 +168,8 @@ module _ {K : Type 0} where
       let whole : e.size ≡ max = (subst (λ mode. Fits (ReaderWriter max) mode e.size) writes fits).1 in
       alone (omega arith)
 
-  exclusive_as : (kind : Kind) (object : Object (Tag K)) → LetsIn kind → IfSome (shares_of kind) (HasShares object) → AllByRecursion (λ (e : Entry (Tag K)). Fits kind e.name.mode e.size) (in_hand object)
+  exclusive_as : (kind : Kind) (object : Object (Tag K)) → HasAShare kind → IfSome (share_count kind) (HasShares object)
+      → AllByRecursion (λ (e : Entry (Tag K)). Fits kind e.name.mode e.size) (in_hand object)
       → ExclusiveAs kind (in_hand object)
   exclusive_as Semaphore object lets has fit = tt
   exclusive_as Mutex object lets has fit =
@@ -175,7 +180,7 @@ module _ {K : Type 0} where
       both_of_each _ _ _ (write_has_all max (in_hand object)) (in_hand object) fit
       (alone max (in_hand object) (all-weaker _ _ (asks_some (ReaderWriter max) refl lets) (in_hand object) fit) (all_fit object max has))
 
-  pub exclusive : (same : K → K → Bool) (object : Object (Tag K)) → LetsIn object.kind → KeepsShares object → IsOrderly same object → IsExclusive object
+  pub exclusive : (same : K → K → Bool) (object : Object (Tag K)) → HasAShare object.kind → KeepsShares object → IsOrderly same object → IsExclusive object
   exclusive same object lets has is =
       exclusive_as object.kind object lets has
       (all_of_both _ object.line.granted object.held (all_of_first _ object.line.granted (map entry_of object.line.waiting) is.each_request) is.each_held)

@@ -1,9 +1,11 @@
 -- What is so of an object between any two rules, and what a rule does to those in its line.
-use Rattle.std.specs.Prelude.{◌≡◌, ℕ, ◌+◌, ◌<◌, ◌≤◌, Bool, false, List, [], ◌∷◌, ◌++◌, map, length, ℤ, pos, neg_ℤ, ◌+ℤ◌, ◌≤ℤ◌, ◌<ℤ◌, Option, Some, None, IfSome}
+use Rattle.std.specs.Prelude.{◌≡◌, ℕ, ◌+◌, ◌<◌, ◌≤◌, Bool, false, List, [], ◌∷◌, ◌++◌, map, length, ℤ, pos}
+use Rattle.std.specs.Prelude.{neg_ℤ, ◌+ℤ◌, ◌≤ℤ◌, ◌<ℤ◌, Option, Some, None, IfSome}
 use Rattle.std.specs.List.{AllByRecursion, list_any, filter}
-use Rattle.band_balance.specs.Line.{Entry, Waiting, Line, AreAlike, entry_of, requests, total, u64_max, without, without_waiting}
+use Rattle.band_balance.specs.Line.{Entry, Waiting, Line, AreAlike, entry_of, requests, total, u64_max}
+use Rattle.band_balance.specs.Line.{without, without_waiting}
 use Rattle.band_balance.specs.Object.{Object, Turn, Kind, Semaphore, Mutex, ReaderWriter, Write, Tag}
-use Rattle.band_balance.specs.Rule.{Fits, is}
+use Rattle.band_balance.specs.Rule.{Fits, has_name}
 use Rattle.band_balance.specs.Settled.{HeadWaits}
 
 -- R holds of each element and each later one
@@ -26,14 +28,14 @@ pub record IsWithin {N : Type 0} (object : Object N) : Type 0 where
   pub owed : neg_ℤ (pos u64_max) ≤ℤ object.line.free
 
 -- how many shares a lock has in all
-abbrev pub shares_of : Kind → Option ℕ
-shares_of Semaphore = None
-shares_of Mutex = Some 1
-shares_of (ReaderWriter max) = Some max
+abbrev pub share_count : Kind → Option ℕ
+share_count Semaphore = None
+share_count Mutex = Some 1
+share_count (ReaderWriter max) = Some max
 
 -- a lock has one share at least
-abbrev pub LetsIn : Kind → Type 0
-LetsIn kind = IfSome (shares_of kind) (λ shares. 0 < shares)
+abbrev pub HasAShare : Kind → Type 0
+HasAShare kind = IfSome (share_count kind) (λ shares. 0 < shares)
 
 -- nothing is owed of a lock, and what is free, granted and held is all there is
 pub record HasShares {N : Type 0} (object : Object N) (shares : ℕ) : Type 0 where
@@ -41,13 +43,15 @@ pub record HasShares {N : Type 0} (object : Object N) (shares : ℕ) : Type 0 wh
   pub adds_up : permits object ≡ pos shares
 
 abbrev pub KeepsShares : {N : Type 0} → Object N → Type 0
-KeepsShares object = IfSome (shares_of object.kind) (HasShares object)
+KeepsShares object = IfSome (share_count object.kind) (HasShares object)
 
--- of a mutex one entry at most is granted or held, and a write that is granted or held of a lock is the only one
+-- of a mutex one entry at most is granted or held, and a write that is granted or held of a lock is the only
+-- one
 abbrev pub ExclusiveAs : {K : Type 0} → Kind → List (Entry (Tag K)) → Type 0
 ExclusiveAs Semaphore entries = Unit {0}
 ExclusiveAs Mutex entries = length entries ≤ 1
-ExclusiveAs {K} (ReaderWriter max) entries = AllByRecursion (λ (e : Entry (Tag K)). e.name.mode ≡ Write → entries ≡ e ∷ []) entries
+ExclusiveAs {K} (ReaderWriter max) entries =
+    AllByRecursion (λ (e : Entry (Tag K)). e.name.mode ≡ Write → entries ≡ e ∷ []) entries
 
 abbrev pub IsExclusive : {K : Type 0} → Object (Tag K) → Type 0
 IsExclusive object = ExclusiveAs object.kind (in_hand object)
@@ -60,27 +64,28 @@ module _ {K : Type 0} (same : K → K → Bool) where
     -- a name has one request at most
     pub once : Pairwise (λ (a b : Entry (Tag K)). same a.name.name b.name.name ≡ false) (requests object.line)
     -- what each entry asks for or holds can be asked for of the object
-    pub each_request : AllByRecursion (λ (e : Entry (Tag K)). Fits object.kind e.name.mode e.size) (requests object.line)
+    pub each_request :
+        AllByRecursion (λ (e : Entry (Tag K)). Fits object.kind e.name.mode e.size) (requests object.line)
     pub each_held : AllByRecursion (λ (e : Entry (Tag K)). Fits object.kind e.name.mode e.size) object.held
 
   abbrev pub stands_in : K → List (Entry (Tag K)) → Bool
-  stands_in name entries = list_any (λ e. is same name e.name) entries
+  stands_in name entries = list_any (λ e. has_name same name e.name) entries
 
   -- those that waited in a line before and are granted after, in order
   abbrev pub granted_between : Line (Tag K) → Line (Tag K) → List (Waiting (Tag K))
   granted_between before after = filter (λ w. stands_in w.name.name after.granted) before.waiting
 
-  -- Those granted now stood in front of those that wait still, and follow those granted before. At most one left the line.
-  pub record GrantsAFront (before after : Line (Tag K)) : Type 0 where
-    -- who left
-    pub left : Tag K → Bool
+  -- Those granted now stood in front of those that wait still, and follow those granted before. Just `left`
+  -- left the line.
+  pub record GrantsAFront (left : Tag K → Bool) (before after : Line (Tag K)) : Type 0 where
     pub requested : requests after ≡ without left (requests before)
     pub waiting : without_waiting left before.waiting ≡ granted_between before after ++ after.waiting
     pub granted : after.granted ≡ without left before.granted ++ map entry_of (granted_between before after)
     -- where permits are owed still, nobody is granted
     pub owed : after.free <ℤ pos 0 → granted_between before after ≡ []
 
--- two objects that differ at most in the order of those granted, and two turns that answer and wake the same and leave such objects
+-- two objects that differ at most in the order of those granted, and two turns that answer and wake the same
+-- and leave such objects
 pub record ObjectsAlike {N : Type 0} (one other : Object N) : Type 0 where
   pub kind : other.kind ≡ one.kind
   pub line : AreAlike one.line other.line

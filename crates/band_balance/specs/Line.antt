@@ -1,6 +1,8 @@
 -- A line: what is free, who waits, who was granted and has not polled since, and the wakers to wake.
 -- N is what names an entry: a slot of a semaphore, or a name of a script with its mode.
-use Rattle.std.specs.Prelude.{◌≡◌, ℕ, Bool, true, false, ◌&&◌, ◌||◌, ◌==◌, List, [], ◌∷◌, ◌++◌, map, min, ℤ, pos, ◌+ℤ◌, ◌-ℤ◌, int_le, int_lt, unsigned_abs, if◌then◌else◌, Option, Some, None, find, sum_by, ◌-◌, ◌+◌, ◌^◌, neg_ℤ}
+use Rattle.std.specs.Prelude.{◌≡◌, ℕ, Bool, true, false, ◌&&◌, ◌||◌, ◌==◌, List, [], ◌∷◌, ◌++◌, map, min, ℤ}
+use Rattle.std.specs.Prelude.{pos, ◌+ℤ◌, ◌-ℤ◌, int_le, int_lt, unsigned_abs, if◌then◌else◌, Option, Some}
+use Rattle.std.specs.Prelude.{None, find, sum_by, ◌-◌, ◌+◌, ◌^◌, neg_ℤ}
 use Rattle.std.specs.List.Sorted.{IsPermutation}
 
 -- a request that was granted, or a permit that is held
@@ -53,18 +55,21 @@ module _ {N : Type 0} where
   nobody_waits [] = true
   nobody_waits (first ∷ rest) = false
 
-  -- Settle: while the first that waits asks for no more than is free, it is granted, and its waker is to be woken.
+  -- Settle: while the first that waits asks for no more than is free, it is granted, and its waker is to be
+  -- woken.
   abbrev pub settle_from : ℤ → List (Waiting N) → List (Entry N) → List ℕ → Line N
   settle_from free [] granted wakes = record { free = free; waiting = []; granted = granted; wakes = wakes }
   settle_from free (first ∷ rest) granted wakes =
       if int_le (pos first.size) free
-      then settle_from (free -ℤ pos first.size) rest (granted ++ entry_of first ∷ []) (wakes ++ first.waker ∷ [])
+      then
+      settle_from (free -ℤ pos first.size) rest (granted ++ entry_of first ∷ []) (wakes ++ first.waker ∷ [])
       else record { free = free; waiting = first ∷ rest; granted = granted; wakes = wakes }
 
   abbrev pub settle : Line N → Line N
   settle line = settle_from line.free line.waiting line.granted line.wakes
 
-  -- A first poll is served at once where it asks for nothing, or where nobody waits and it asks for no more than is free.
+  -- A first poll is served at once where it asks for nothing, or where nobody waits and it asks for no more
+  -- than is free.
   abbrev pub is_served : ℕ → Line N → Bool
   is_served size line = size == 0 || (nobody_waits line.waiting && int_le (pos size) line.free)
 
@@ -82,7 +87,8 @@ module _ {N : Type 0} where
 
   -- a request goes to the end of those that wait
   abbrev pub join : N → ℕ → ℕ → Line N → Line N
-  join name size waker line = record line { waiting = line.waiting ++ record { name = name; size = size; waker = waker } ∷ [] }
+  join name size waker line =
+      record line { waiting = line.waiting ++ record { name = name; size = size; waker = waker } ∷ [] }
 
   -- what may be taken without waiting
   abbrev pub available : Line N → ℕ

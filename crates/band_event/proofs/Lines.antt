@@ -1,22 +1,12 @@
 -- Lists of slots, of which each stands once.
-use Rattle.std.proofs.Common.{◌≡◌, ◌≢◌, refl, ℕ, suc, ◌+◌, List, [], ◌∷◌, ◌++◌, length, drop, slice_get, arith, ap, subst, Some, None, Bool, true, false, not, nat_eq}
-use Rattle.std.specs.Prelude.{◌==◌, filter, flat_map}
+use Rattle.std.proofs.Common.{◌≡◌, ◌≢◌, refl, ℕ, List, [], ◌∷◌, ◌++◌, drop, slice_get, arith, ap, subst, Some, Bool, true, false, nat_eq}
+use Rattle.std.specs.Prelude.{◌==◌, flat_map}
 use Rattle.std.specs.List.{IsDistinct, AllByRecursion, list_any}
 use Rattle.std.proofs.lemmas.Bool.Decides.{nat_tests}
 use Rattle.std.proofs.lemmas.List.Concat.{flat_map-cons}
 
-abbrev pub is_in : ℕ → List ℕ → Bool
+abbrev is_in : ℕ → List ℕ → Bool
 is_in id ids = list_any (λ other. other == id) ids
-
-abbrev pub off : ℕ → List ℕ → List ℕ
-off id ids = filter (λ other. not (other == id)) ids
-
-pub in_first : (ids : List ℕ) (id : ℕ) → slice_get ids 0 ≡ Some id → is_in id ids ≡ true
-in_first [] id e = absurd (cc)
-in_first (x ∷ xs) id e =
-    let same : x ≡ id = cc in
-    let here : (x == id) ≡ true = grind (arith, nat_tests) in
-    rw here refl
 
 out_apart : (id : ℕ) (ids : List ℕ) → AllByRecursion (λ other. nat_eq id other ≡ false) ids → is_in id ids ≡ false
 out_apart id [] apart = refl
@@ -24,34 +14,6 @@ out_apart id (y ∷ ys) apart =
     let differs = apart.0 in
     let here : (y == id) ≡ false = grind (arith, nat_tests) in
     rw here (out_apart id ys apart.1)
-
-pub length-off_out : (id : ℕ) (ids : List ℕ) → is_in id ids ≡ false → length (off id ids) ≡ length ids
-length-off_out id [] out = refl
-length-off_out id (x ∷ xs) out = by_test (x == id) refl (length-off_out id xs)
-  where
-    by_test : (b : Bool) → (x == id) ≡ b → (is_in id xs ≡ false → length (off id xs) ≡ length xs)
-        → length (off id (x ∷ xs)) ≡ length (x ∷ xs)
-    by_test true e rest = absurd (let never : true ≡ false = rw e at out in cc)
-    by_test false e rest =
-        let out_rest : is_in id xs ≡ false = rw e at out in
-        rw (ap not e) (ap suc (rest out_rest))
-
-pub length-off_in : (id : ℕ) (ids : List ℕ) → IsDistinct nat_eq ids → is_in id ids ≡ true → length (off id ids) + 1 ≡ length ids
-unfolding IsDistinct
-length-off_in id [] once here = absurd (cc)
-length-off_in id (x ∷ xs) once here = by_test (x == id) refl (length-off_in id xs once.1)
-  where
-    by_test : (b : Bool) → (x == id) ≡ b → (is_in id xs ≡ true → length (off id xs) + 1 ≡ length xs)
-        → length (off id (x ∷ xs)) + 1 ≡ length (x ∷ xs)
-    by_test true e rest =
-        let same : x ≡ id = grind (arith, nat_tests) in
-        let out : is_in id xs ≡ false = subst (λ k. is_in k xs ≡ false) same (out_apart x xs once.0) in
-        let others = length-off_out id xs out in
-        rw (ap not e) (omega arith)
-    by_test false e rest =
-        let in_rest : is_in id xs ≡ true = rw e at here in
-        let others = rest in_rest in
-        rw (ap not e) (omega arith)
 
 -- two maps that agree off a slot agree on a list off it
 agree_off : {A : Type 0} (f g : ℕ → List A) (slot : ℕ) → ((other : ℕ) → other ≢ slot → f other ≡ g other)
@@ -80,11 +42,3 @@ first-split f g slot same (x ∷ xs) once first =
     let out : is_in slot xs ≡ false = subst (λ k. is_in k xs ≡ false) here (out_apart x xs once.0) in
     let others = agree_off f g slot same xs out in
     rw (flat_map-cons g x xs) (rw here (ap (λ ys. g slot ++ ys) others))
-
-pub length-first : (ids : List ℕ) (id : ℕ) → slice_get ids 0 ≡ Some id → length (drop 1 ids) + 1 ≡ length ids
-length-first [] id e = absurd (cc)
-length-first (x ∷ xs) id e = omega arith
-
-pub nobody_first : (ids : List ℕ) → slice_get ids 0 ≡ None → ids ≡ []
-nobody_first [] e = refl
-nobody_first (x ∷ xs) e = absurd (cc)

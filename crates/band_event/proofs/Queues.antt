@@ -1,6 +1,6 @@
 -- What the calls of a queue keep.
 use Rattle.std.proofs.Common.{◌≡◌, ◌≢◌, refl, ℕ, suc, ◌+◌, ◌-◌, List, [], ◌∷◌, ◌++◌, append_assoc, append-nil, length, map, drop, get_or, arith, ap, sym, ◌∙◌, subst, Option, Some, None, is_some, Bool, true, false}
-use Rattle.std.specs.Prelude.{◌==◌, flat_map, Result, Ok, Err}
+use Rattle.std.specs.Prelude.{◌==◌, flat_map, Result, Ok}
 use Rattle.std.specs.Option.{option_map}
 use Rattle.std.proofs.Math.Seq.{map-set_same}
 use Rattle.std.proofs.lemmas.Bool.Decides.{nat_tests}
@@ -13,10 +13,10 @@ use Rattle.band_line.specs.Arena.{KeepsOthers, arena_map}
 use Rattle.band_line.specs.WaitList.{WaitListState, IsWaitList, IsUnlinked, waiter_at, is_linked, first_waiter, detached, unlinked, removed_waiter}
 use Rattle.band_event.specs.declared.place.Place.{Place}
 use Rattle.band_event.specs.declared.place.Place.TheVariants.{Queued, Called}
-use Rattle.band_event.specs.Event.{QueueState, EventState, IsEvent, IsQueue, StayHere, place_at, is_queued, is_called, wakers_of, all_called, Polls, LaterPoll}
+use Rattle.band_event.specs.Event.{QueueState, EventState, IsEvent, IsQueue, place_at, is_queued, is_called, wakers_of, all_called, Polls, LaterPoll}
 use Rattle.band_signal.specs.Waits.{Life, Registered}
 use Rattle.band_event.specs.Kept.Queue.{IsKept}
-use Rattle.band_event.proofs.Lines.{first-split, length-off_in, length-off_out}
+use Rattle.band_event.proofs.Lines.{first-split}
 
 -- exactly those in line are queued, seen at one slot and at the others
 by_slot : (line : WaitListState Place) (slot : ℕ)
@@ -30,14 +30,6 @@ by_slot line slot here others wakes other = by_test (other == slot) refl
         let same : slot ≡ other = grind (arith, nat_tests) in
         subst (λ s. is_queued (waiter_at s line) ≡ is_linked s line) same here
     by_test false e = let differs : other ≢ slot = grind (arith, nat_tests) in others other differs
-
-pub queued-called : (old : QueueState) (line : WaitListState Place) (slot : ℕ) → IsQueue old → IsUnlinked slot Called old.line line
-    → (wakes : List ℕ) → IsQueue (record { line = line; wakes = wakes })
-queued-called old line slot queued unlinked wakes =
-    by_slot line slot
-    (ap is_queued unlinked.value ∙ sym unlinked.detached.not_linked)
-    (λ other differs. ap is_queued (unlinked.others other differs) ∙ queued other ∙ sym (unlinked.linked other differs))
-    wakes
 
 -- a slot still has something, and if that was called, so it stays
 abbrev pub StaysAt : ℕ → WaitListState Place → WaitListState Place → Type 0
@@ -56,9 +48,6 @@ stay-called old line slot place here unlinked other = by_test (other == slot) re
         let differs : other ≢ slot = grind (arith, nat_tests) in
         let kept = unlinked.others other differs in
         (ap is_some kept, λ was. ap is_called kept ∙ was)
-
-pub stay-on : (first next last : QueueState) → StayHere first next → StayHere next last → StayHere first last
-stay-on first next last before after slot = ((after slot).0 ∙ (before slot).0, λ was. (after slot).1 ((before slot).1 was))
 
 pub queued-gone : (old : QueueState) (line after : WaitListState Place) (slot : ℕ) → IsQueue old → IsUnlinked slot Called old.line line
     → after ≡ removed_waiter slot line → waiter_at slot after ≡ None → KeepsOthers slot line.nodes after.nodes
@@ -129,14 +118,13 @@ gone line after before slot place is taken =
 
 -- one that was queued is counted no more, once it is gone
 pub kept-queued : (old : QueueState) (line after : WaitListState Place) (slot waiting spare : ℕ) (waker : Waker)
-    → IsKept old waiting spare → IsWaitList old.line → IsUnlinked slot Called old.line line → waiter_at slot old.line ≡ Some (Queued waker)
+    → IsKept old waiting spare → IsUnlinked slot Called old.line line → waiter_at slot old.line ≡ Some (Queued waker)
     → after ≡ removed_waiter slot line → waiter_at slot after ≡ None → KeepsOthers slot line.nodes after.nodes
     → IsKept (record { line = after; wakes = old.wakes }) (waiting - 1) spare
-kept-queued old line after slot waiting spare waker kept sound unlinked here is vacant others =
+kept-queued old line after slot waiting spare waker kept unlinked here is vacant others =
     let linked : is_linked slot old.line ≡ true = sym (kept.queued slot) ∙ ap is_queued here in
-    let fewer = length-off_in slot old.line.linked sound.once linked in
-    let links : after.linked ≡ (detached slot old.line).linked = ap (λ l. l.linked) is ∙ ap (λ l. l.linked) unlinked.state in
-    let count = ap length links in
+    let fewer = unlinked.fewer linked in
+    let count = ap (λ l. length l.linked) is in
     let counted = kept.counted in
     let room = kept.room in
     record {
@@ -152,9 +140,7 @@ pub kept-called : (old : QueueState) (line after : WaitListState Place) (slot wa
     → IsKept (record { line = after; wakes = old.wakes }) waiting spare
 kept-called old line after slot waiting spare kept unlinked here is vacant others =
     let out : is_linked slot old.line ≡ false = sym (kept.queued slot) ∙ ap is_queued here in
-    let as_many = length-off_out slot old.line.linked out in
-    let links : after.linked ≡ (detached slot old.line).linked = ap (λ l. l.linked) is ∙ ap (λ l. l.linked) unlinked.state in
-    let count = ap length links in
+    let count = ap (λ l. length l.linked) is ∙ ap length (unlinked.already out) in
     let counted = kept.counted in
     let room = kept.room in
     record {

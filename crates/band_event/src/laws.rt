@@ -16,8 +16,8 @@ pub fn set_events_have_no_line()
         → (slot : ℕ) → is_queued (place_at slot event.queue) ≡ true → event.is_set ≡ false }
 {}
 
-/// A wait that an event has called is ready, whether the event is set or not. Until it is polled it stays called, also by
-/// a `reset`: the clauses `stay` and `others` of the other calls say so.
+/// A wait that an event has called is ready, whether the event is set or not. That it stays called over a `set`, and over
+/// polls and cancels of others, their clauses `stay` and `others` say.
 pub fn called_waits_stay_ready()
     ensures manual_reset { (event new : EventState) (slot : ℕ) (waker : TheWaker)
         (result : Result (ThePoll Unit) TheError) (life : Life)

@@ -78,12 +78,13 @@ pub sound_arena : {T : Type 0} {slots : List (Slot T)} {capacity len : ℕ} {fir
 sound_arena {T} {slots} {capacity} {len} {first} fits sound =
     let many = length-map slots value_of in
     let ids = vacated_of slots len first in
+    let apart = AreApart-IsChain (next_at slots) first ids sound.chained in
     record {
       here = λ id here. omega (arith, many, occupied_within slots id here);
       within = λ id among. omega (arith, many, vacant_within slots id (chain_tells (next_at slots) first ids id sound.chained among));
       vacant = λ id among. vacant_at slots id (chain_tells (next_at slots) first ids id sound.chained among);
-      only = all_vacated (map value_of slots) ids (AreApart-IsChain (next_at slots) first ids sound.chained) (chain_marked slots first ids sound.chained) (omega (arith, many, sound.counted, sound.all));
-      once = AreApart-IsDistinct ids (AreApart-IsChain (next_at slots) first ids sound.chained);
+      only = all_vacated (map value_of slots) ids apart (chain_marked slots first ids sound.chained) (omega (arith, many, sound.counted, sound.all));
+      once = AreApart-IsDistinct ids apart;
       all = omega (arith, many, sound.counted, sound.all);
       room = omega (arith, many, sound.counted, sound.all);
       numbered = omega (arith, sound.counted, sound.all, sound.numbered);

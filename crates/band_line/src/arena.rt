@@ -13,8 +13,8 @@ use std::marker::Model;
 use std::mem;
 use std::sync::ledger::Ledger;
 
-/// Values in slots, each found by the number of its slot. A slot that was vacated is given again, the latest first.
-/// Ports `Arena`.
+/// Values in slots, each found by the number of its slot. A slot that was vacated is given again, the latest
+/// first. Ports `Arena`.
 #[derive(Drop)]
 pub struct Arena<T> {
     slots: Vec<Slot<T>>,
@@ -104,7 +104,8 @@ impl<T> Arena<T> {
         ensures enough { n ≤ self.old.spare → IsOk result }
         ensures no_more { n ≤ self.old.spare → self.new ≡ self.old }
         ensures twofold { OnOk result (self.old.spare < n →
-            min slot_limit (2 * (occupied_len self.old + self.old.spare)) ≤ occupied_len self.old + self.new.spare) }
+            min slot_limit (2 * (occupied_len self.old + self.old.spare))
+            ≤ occupied_len self.old + self.new.spare) }
         ensures most { OnOk result (occupied_len self.old + self.new.spare
             ≤ max (occupied_len self.old + n) (2 * (occupied_len self.old + self.old.spare))) }
         ensures limit { slot_limit < occupied_len self.old + n → IsErr result }

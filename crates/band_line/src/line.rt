@@ -61,7 +61,8 @@ impl<T> Line<T> {
             min slot_limit (2 * (occupied_len self.old.nodes + self.old.nodes.spare))
             ≤ occupied_len self.old.nodes + self.new.nodes.spare) }
         ensures most { OnOk result (occupied_len self.old.nodes + self.new.nodes.spare
-            ≤ max (occupied_len self.old.nodes + n) (2 * (occupied_len self.old.nodes + self.old.nodes.spare))) }
+            ≤ max (occupied_len self.old.nodes + n)
+            (2 * (occupied_len self.old.nodes + self.old.nodes.spare))) }
         ensures limit { slot_limit < occupied_len self.old.nodes + n → IsErr result }
         ensures sound { IsWaitList self.new }
         ensures nodes { IsSoundArena self.new.nodes }

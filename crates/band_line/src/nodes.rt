@@ -37,8 +37,8 @@ impl<T> Node<T> {
         &mut self.value
     }
 
-    /// Asks `f` about the value. Where it answers true, the node is detached, and the answer is what its links
-    /// were.
+    /// Asks `f` about the value. Where it answers true, the node is detached, and the answer is what its
+    /// links were.
     fn ask<F: FnOnce(&mut T) -> bool>(&mut self, f: F) -> Option<Links>
         requires { FnOnceTakesAtMut F.FnOnce f self.old.value }
         ensures asked { FnOnceReturnsAtMut F.FnOnce f self.old.value (is_some result) self.new.value }
@@ -66,8 +66,8 @@ impl<T> Arena<Node<T>> {
         self.occupied_mut(id, steps).value_mut()
     }
 
-    /// Asks `f` about the value of the node in a slot that has one. Where it answers true, the node is detached,
-    /// and the answer is what its links were.
+    /// Asks `f` about the value of the node in a slot that has one. Where it answers true, the node is
+    /// detached, and the answer is what its links were.
     pub(crate) fn ask<F: FnOnce(&mut T) -> bool, L: Ledger>(
         &mut self,
         id: SlotId,

@@ -1,5 +1,5 @@
-//! What no clause says: that calls succeed where memory is left, and that the words mean what is done to plain
-//! vectors.
+//! What no clause says: that calls succeed where memory is left, and that the words mean what is done to
+//! plain vectors.
 ghost use Rattle.std.specs.Prelude.{◌≡◌, ◌+◌, ◌<◌, length, IsSome, IfSome, OnOk};
 ghost use Rattle.band_line.specs.WaitList.{waiter_at};
 
@@ -7,6 +7,7 @@ use crate::{Arena, SlotId, WaitList, WaiterId, WakerBatch, WakerSet, WakerToken,
 use band_base::{Steps, WakeLine, Waker};
 use std::alloc::{AllocError, Global};
 use std::marker::Brand;
+use std::mem;
 use std::process::Abort;
 use std::sync::ledger::{Blank, Ledger};
 use std::test::Fail;
@@ -310,6 +311,58 @@ fn draws(row: &mut u64, n: usize) -> usize
     (*row >> 33) as usize % n
 }
 
+/// A value goes into the slot that was vacated last, or else into a new one.
+fn inserts<L: Ledger, R: Abort>(
+    rt: &R,
+    arena: &mut Arena<u64>,
+    slots: &mut Vec<(SlotId, Option<u64>)>,
+    vacated: &mut Vec<usize>,
+    value: u64,
+    steps: &mut Steps<L>,
+) -> Result<(), Fail> {
+    arena.reserve(1)?;
+    let id = arena.insert(value, steps);
+    let slot = vacated.pop().unwrap_or(slots.len());
+    assert_eq!(rt; id.index(), slot);
+    match slots.get_mut(slot) {
+        Some((_, found)) => *found = Some(value),
+        None => slots.push((id, Some(value)))?,
+    }
+    Ok(())
+}
+
+/// All values are taken, by their slots, and the arena is as new.
+fn takes_all<R: Abort>(
+    rt: &R,
+    arena: &mut Arena<u64>,
+    slots: &mut Vec<(SlotId, Option<u64>)>,
+    vacated: &mut Vec<usize>,
+) {
+    let mut values = arena.take_all();
+    for (_, value) in slots.iter() {
+        if value.is_some() {
+            assert!(rt; values.next() == *value);
+        }
+    }
+    assert!(rt; values.next() == None);
+    assert_eq!(rt; (arena.len(), arena.spare()), (0, 0));
+    slots.clear();
+    vacated.clear();
+}
+
+/// The value in a slot is another now, if there is one. The answer is what it was.
+fn rewrites<L: Ledger>(
+    arena: &mut Arena<u64>,
+    id: SlotId,
+    value: u64,
+    steps: &mut Steps<L>,
+) -> Option<u64> {
+    match arena.get_mut(id, steps) {
+        Some(found) => Some(mem::replace(found, value)),
+        None => None,
+    }
+}
+
 /// One call on an arena, and the same on a vector of what each slot has and one of the vacated slots.
 fn arena_turn<L: Ledger, R: Abort>(
     rt: &R,
@@ -319,22 +372,25 @@ fn arena_turn<L: Ledger, R: Abort>(
     row: &mut u64,
     steps: &mut Steps<L>,
 ) -> Result<(), Fail> {
-    if draws(row, 5) < 3 || slots.is_empty() {
-        arena.reserve(1)?;
-        let id = arena.insert(*row, steps);
-        let slot = vacated.pop().unwrap_or(slots.len());
-        assert_eq!(rt; id.index(), slot);
-        match slots.get_mut(slot) {
-            Some((_, value)) => *value = Some(*row),
-            None => slots.push((id, Some(*row)))?,
-        }
+    let turn = draws(row, 100);
+    if turn == 0 {
+        takes_all(rt, arena, slots, vacated);
         return Ok(());
+    }
+    if turn < 60 || slots.is_empty() {
+        return inserts(rt, arena, slots, vacated, *row, steps);
     }
     let slot = draws(row, slots.len());
     let (id, value) = slots[slot];
     assert!(rt; arena.get(id, steps).copied() == value);
-    if arena.has(id) {
-        assert!(rt; Some(arena.remove(id, steps)) == value);
+    assert!(rt; rewrites(arena, id, *row, steps) == value);
+    if !arena.has(id) {
+        return Ok(());
+    }
+    if turn < 80 {
+        slots[slot] = (id, Some(*row));
+    } else {
+        assert_eq!(rt; arena.remove(id, steps), *row);
         slots[slot] = (id, None);
         vacated.push(slot)?;
     }
@@ -355,13 +411,7 @@ fn arena_is_its_slots<L: Ledger, R: Abort>(
         arena_turn(rt, &mut arena, &mut slots, &mut vacated, &mut row, steps)?;
         assert_eq!(rt; arena.len() as usize + vacated.len(), slots.len());
     }
-    let mut values = arena.into_iter();
-    for (_, value) in slots {
-        if value.is_some() {
-            assert!(rt; values.next() == value);
-        }
-    }
-    assert!(rt; values.next() == None);
+    takes_all(rt, &mut arena, &mut slots, &mut vacated);
     Ok(())
 }
 
@@ -389,7 +439,7 @@ fn list_turn<L: Ledger, R: Abort>(
     steps: &mut Steps<L>,
 ) -> Result<(), Fail> {
     list.reserve(1)?;
-    match draws(row, 6) {
+    match draws(row, 7) {
         0 => linked.insert(0, (list.push_front(*row, steps), *row))?,
         1 | 2 => linked.push((list.push_back(*row, steps), *row))?,
         3 => {
@@ -401,6 +451,13 @@ fn list_turn<L: Ledger, R: Abort>(
             }
         }
         4 if !linked.is_empty() => {
+            let place = draws(row, linked.len());
+            let (id, value) = linked[place];
+            assert!(rt; list.has(id));
+            assert_eq!(rt; mem::replace(list.waiter_mut(id, steps), *row), value);
+            linked[place] = (id, *row);
+        }
+        5 if !linked.is_empty() => {
             let (id, value) = linked.remove(draws(row, linked.len()));
             assert!(rt; list.has(id));
             assert!(rt; stays(list, id, steps));

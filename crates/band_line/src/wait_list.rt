@@ -32,7 +32,8 @@ impl Model for WaiterId {
     ghost inverse = { λ slot. record { slot = slot } };
 }
 
-/// Waiters in a line. One that is unlinked is detached: it stays readable until it is removed. Ports `WaitList`.
+/// Waiters in a line. One that is unlinked is detached: it stays readable until it is removed. Ports
+/// `WaitList`.
 ///
 /// It takes 16 bytes, and no memory before the first `reserve`.
 #[derive(Drop)]
@@ -76,7 +77,8 @@ impl<T> WaitList<T> {
             min slot_limit (2 * (occupied_len self.old.nodes + self.old.nodes.spare))
             ≤ occupied_len self.old.nodes + self.new.nodes.spare) }
         ensures most { OnOk result (occupied_len self.old.nodes + self.new.nodes.spare
-            ≤ max (occupied_len self.old.nodes + n) (2 * (occupied_len self.old.nodes + self.old.nodes.spare))) }
+            ≤ max (occupied_len self.old.nodes + n)
+            (2 * (occupied_len self.old.nodes + self.old.nodes.spare))) }
         ensures limit { slot_limit < occupied_len self.old.nodes + n → IsErr result }
         ensures sound { IsWaitList self.new }
         ensures nodes { IsSoundArena self.new.nodes }
@@ -229,10 +231,11 @@ impl<T> WaitList<T> {
         made(&mut self.line).unlink(id.slot, f, steps)
     }
 
-    /// Asks `f` about the value at the front. Where it answers true, the node is detached, and the answer is its
-    /// value.
+    /// Asks `f` about the value at the front. Where it answers true, the node is detached, and the answer is
+    /// its value.
     ///
-    /// Which node that is, `first` tells before the call. Where nobody is linked, nobody is asked, and the answer is `None`.
+    /// Which node that is, `first` tells before the call. Where nobody is linked, nobody is asked, and the
+    /// answer is `None`.
     pub fn unlink_first_waiter<F: FnOnce(&mut T) -> bool + Drop, L: Ledger>(
         &mut self,
         f: F,

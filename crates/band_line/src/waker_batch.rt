@@ -7,7 +7,8 @@ use band_base::{WakeLine, Waker};
 use std::alloc::{AllocError, Global};
 use std::marker::Model;
 
-/// Wakers in the order in which they were pushed. The first `STACK_SIZE` of them need no memory. Ports `WakerBatch`.
+/// Wakers in the order in which they were pushed. The first `STACK_SIZE` of them need no memory. Ports
+/// `WakerBatch`.
 #[derive(Drop)]
 pub struct WakerBatch {
     /// The numbers of the first. An `ArrayVec` wants a default to be cleared, which a `Waker` doesn't have.
@@ -65,7 +66,8 @@ impl WakerBatch {
         Ok(())
     }
 
-    /// Adds all to the wakers to wake, in their order. The batch is empty. It keeps its memory, which is not promised.
+    /// Adds all to the wakers to wake, in their order. The batch is empty. It keeps its memory, which is not
+    /// promised.
     pub fn wake_all(&mut self, out: &mut WakeLine)
         requires { length self.old ≤ out.old.spare }
         ensures woken { out.new ≡ pushed_all self.old out.old }

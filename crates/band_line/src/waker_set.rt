@@ -1,5 +1,5 @@
 //! Wakers that are registered, each under a token.
-ghost use Rattle.std.specs.Prelude.{◌≡◌, ◌≢◌, ℕ, ◌+◌, ◌<◌, ◌≤◌, Some, None, IsSome, IsOk, IsErr, IfOk, OnOk, IsNone, is_some, is_ok, if◌then◌else◌, length};
+ghost use Rattle.std.specs.Prelude.{◌≡◌, ◌≢◌, ℕ, ◌+◌, ◌*◌, ◌<◌, ◌≤◌, min, max, Some, None, IsSome, IsOk, IsErr, IfOk, OnOk, IsNone, is_some, is_ok, if◌then◌else◌, length};
 ghost use Rattle.std.specs.Option.{ForSome, option_and_then, option_map_or};
 ghost use Rattle.band_line.specs.Arena.{IsSoundArena, empty_arena, value_at, KeepsValues, KeepsOthers, values, occupied_len, removed, with_room, slot_limit};
 ghost use Rattle.band_line.specs.Wakers.{pushed_all};
@@ -73,8 +73,8 @@ impl WakerSet {
         self.wakers.len()
     }
 
-    /// Leaves a waker: with a token in place of the one under it, and else under a new token, for which it may
-    /// take memory.
+    /// Leaves a waker: with a token in place of the one under it, and else under a new token, for which it
+    /// may take memory.
     pub fn register<L: Ledger>(
         &mut self,
         token: &mut Option<WakerToken>,
@@ -91,6 +91,11 @@ impl WakerSet {
         ensures enough { 0 < self.old.spare → IsOk result }
         ensures no_more { 0 < self.old.spare →
             self.new.spare + (if is_some token.old then 0 else 1) ≡ self.old.spare }
+        ensures twofold { OnOk result (IsNone token.old → self.old.spare ≡ 0 →
+            min slot_limit (2 * occupied_len self.old) ≤ occupied_len self.new + self.new.spare) }
+        ensures most { OnOk result (IsNone token.old → self.old.spare ≡ 0 →
+            occupied_len self.new + self.new.spare
+            ≤ max (occupied_len self.old + 1) (2 * occupied_len self.old)) }
         ensures visits { steps.new ≡ steps.old + (if is_ok result then 1 else 0) }
     {
         match token {

@@ -5,6 +5,7 @@ ghost use Rattle.band_sem.specs.Laws.{KeepsOrder, Leaves};
 ghost use Rattle.band_sem.specs.Permit.{new_permit};
 ghost use Rattle.band_sem.specs.Request.{new_request};
 ghost use Rattle.band_sem.specs.Semaphore.{IsLike, IsLawful, IsOwn, Polls, new_state, taken, given_back, cancelled, TakesWake};
+ghost use Rattle.band_sem.specs.Visits.{FewVisits, PollVisits};
 ghost use Rattle.band_sem.specs.Whole.{IsWhole};
 
 use band_base::{Poll, PollError, Steps, Waker};
@@ -113,6 +114,7 @@ impl MutexState {
         ensures order { KeepsOrder self.old.line self.new.line }
         ensures lawful { IsLawful self.new }
         ensures whole { IsWhole 1 self.new }
+        ensures visits { FewVisits self.old self.new steps.old steps.new }
     {
         self.semaphore.drop_permit(g.into_permit(), steps);
     }
@@ -149,6 +151,7 @@ impl LockRequest {
         ensures order { KeepsOrder m.old.line m.new.line }
         ensures lawful { IsLawful m.new }
         ensures whole { IsWhole 1 m.new }
+        ensures visits { PollVisits self.old.stage result steps.old steps.new }
     {
         match self.request.poll_once(&mut m.semaphore, waker, steps)? {
             Poll::Ready(permit) => Ok(Poll::Ready(LockGuard { permit })),
@@ -165,6 +168,7 @@ impl LockRequest {
         ensures order { KeepsOrder m.old.line m.new.line }
         ensures lawful { IsLawful m.new }
         ensures whole { IsWhole 1 m.new }
+        ensures visits { FewVisits m.old m.new steps.old steps.new }
     {
         let LockRequest { request } = self;
         request.cancel(&mut m.semaphore, steps);

@@ -5,6 +5,7 @@ ghost use Rattle.band_sem.specs.Laws.{KeepsOrder, Leaves};
 ghost use Rattle.band_sem.specs.Permit.{new_permit};
 ghost use Rattle.band_sem.specs.Request.{new_request};
 ghost use Rattle.band_sem.specs.Semaphore.{IsLawful, IsOwn, Polls, taken, given_back, cancelled, TakesWake};
+ghost use Rattle.band_sem.specs.Visits.{FewVisits, PollVisits};
 ghost use Rattle.band_lock.specs.ReaderWriter.{new_lock, on_shares, IsLikeLock, IsWholeLock};
 
 use band_base::{Poll, PollError, Steps, Waker};
@@ -189,6 +190,7 @@ impl RwLockState {
         ensures order { KeepsOrder self.old.shares.line self.new.shares.line }
         ensures lawful { IsLawful self.new.shares }
         ensures whole { IsWholeLock self.new }
+        ensures visits { FewVisits self.old.shares self.new.shares steps.old steps.new }
     {
         self.semaphore.drop_permit(a.into_permit(), steps);
     }
@@ -202,6 +204,7 @@ impl RwLockState {
         ensures order { KeepsOrder self.old.shares.line self.new.shares.line }
         ensures lawful { IsLawful self.new.shares }
         ensures whole { IsWholeLock self.new }
+        ensures visits { FewVisits self.old.shares self.new.shares steps.old steps.new }
     {
         self.semaphore.drop_permit(a.into_permit(), steps);
     }
@@ -216,6 +219,7 @@ impl RwLockState {
         ensures order { KeepsOrder self.old.shares.line self.new.shares.line }
         ensures lawful { IsLawful self.new.shares }
         ensures whole { IsWholeLock self.new }
+        ensures visits { FewVisits self.old.shares self.new.shares steps.old steps.new }
     {
         let permit = self.semaphore.shrink(a.into_permit(), 1, steps);
         ReadAccess { permit }
@@ -255,6 +259,7 @@ impl ReadRequest {
         ensures order { KeepsOrder l.old.shares.line l.new.shares.line }
         ensures lawful { IsLawful l.new.shares }
         ensures whole { IsWholeLock l.new }
+        ensures visits { PollVisits self.old.stage result steps.old steps.new }
     {
         match self.request.poll_once(&mut l.semaphore, waker, steps)? {
             Poll::Ready(permit) => Ok(Poll::Ready(ReadAccess { permit })),
@@ -271,6 +276,7 @@ impl ReadRequest {
         ensures order { KeepsOrder l.old.shares.line l.new.shares.line }
         ensures lawful { IsLawful l.new.shares }
         ensures whole { IsWholeLock l.new }
+        ensures visits { FewVisits l.old.shares l.new.shares steps.old steps.new }
     {
         let ReadRequest { request } = self;
         request.cancel(&mut l.semaphore, steps);
@@ -306,6 +312,7 @@ impl WriteRequest {
         ensures order { KeepsOrder l.old.shares.line l.new.shares.line }
         ensures lawful { IsLawful l.new.shares }
         ensures whole { IsWholeLock l.new }
+        ensures visits { PollVisits self.old.stage result steps.old steps.new }
     {
         match self.request.poll_once(&mut l.semaphore, waker, steps)? {
             Poll::Ready(permit) => Ok(Poll::Ready(WriteAccess { permit })),
@@ -322,6 +329,7 @@ impl WriteRequest {
         ensures order { KeepsOrder l.old.shares.line l.new.shares.line }
         ensures lawful { IsLawful l.new.shares }
         ensures whole { IsWholeLock l.new }
+        ensures visits { FewVisits l.old.shares l.new.shares steps.old steps.new }
     {
         let WriteRequest { request } = self;
         request.cancel(&mut l.semaphore, steps);

@@ -248,14 +248,14 @@ pub collect-shown : (part : PartialLine) → IsSettled part → (is : ℕ → Bo
 collect-shown part settled is = record { shown = refl; settled = record { in_order = settled.in_order; given_out = settled.given_out } }
 
 -- a request leaves the row as it leaves the line, and its share leaves with it
-record LeavesRow (is : ℕ → Bool) (nodes : List Node) : Type 0 where
-  waiting : requests_of (without_node is nodes) ≡ without_waiting is (requests_of nodes)
-  had : shares nodes ≡ share_under is nodes + shares (without_node is nodes)
-  owing : owed nodes ≡ owed (without_node is nodes)
-  nothing : AllByRecursion HasNoShare nodes → AllByRecursion HasNoShare (without_node is nodes)
-  order : AreInOrder nodes → AreInOrder (without_node is nodes)
+pub record LeavesRow (is : ℕ → Bool) (nodes : List Node) : Type 0 where
+  pub waiting : requests_of (without_node is nodes) ≡ without_waiting is (requests_of nodes)
+  pub had : shares nodes ≡ share_under is nodes + shares (without_node is nodes)
+  pub owing : owed nodes ≡ owed (without_node is nodes)
+  pub nothing : AllByRecursion HasNoShare nodes → AllByRecursion HasNoShare (without_node is nodes)
+  pub order : AreInOrder nodes → AreInOrder (without_node is nodes)
 
-leaves_row : (is : ℕ → Bool) (nodes : List Node) → LeavesRow is nodes
+pub leaves_row : (is : ℕ → Bool) (nodes : List Node) → LeavesRow is nodes
 leaves_row is = by_nodes (LeavesRow is) none with_debt with_request
   where
     none : LeavesRow is []

@@ -1,6 +1,6 @@
-mod Nodes
-mod Distributes
-mod Follows
-mod Fronts
-mod Steps
-mod Order
+pub mod Nodes
+pub mod Distributes
+pub mod Follows
+pub mod Fronts
+pub mod Steps
+pub mod Order

@@ -47,7 +47,7 @@ all_written given playing before after q =
 within_limit : (limit left : ℕ) (given : List ℕ) → length given + left ≡ limit → take limit given ≡ given
 within_limit limit left given size = take_all limit given (omega arith)
 
-given_within : (limit left : ℕ) (given piece : List ℕ) → length given + left ≡ limit → given ++ take left piece ≡ take limit (given ++ piece)
+pub given_within : (limit left : ℕ) (given piece : List ℕ) → length given + left ≡ limit → given ++ take left piece ≡ take limit (given ++ piece)
 given_within limit left given piece size =
     let rest : limit - length given ≡ left = omega arith in
     sym (take_through limit given piece ∙ ap (λ g. g ++ take (limit - length given) piece) (within_limit limit left given size) ∙ ap (λ n. given ++ take n piece) rest)
@@ -62,7 +62,7 @@ comes_of outcome limit given (Some bytes) (Some more) before after gives holds =
     let P : List ℕ → Type 0 = λ b. (verdict limit b ≡ outcome) × Appends before after (transcript (calls_within limit b)) in
     subst P (sym gives) (holds more refl)
 
-gave_of : (P : List ℕ → Type 0) (given : List ℕ) (first last : Option (List ℕ)) → Consumes first last given → P given → Gave P first last
+pub gave_of : (P : List ℕ → Type 0) (given : List ℕ) (first last : Option (List ℕ)) → Consumes first last given → P given → Gave P first last
 gave_of P given None last gives holds = tt
 gave_of P given (Some bytes) None gives holds = absurd gives
 gave_of P given (Some bytes) (Some more) gives holds = (given, gives, holds)

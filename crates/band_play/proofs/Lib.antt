@@ -5,3 +5,4 @@ pub mod Answering
 pub mod LineRuns
 pub mod Pieces
 pub mod Telling
+pub mod Visits

@@ -1,10 +1,10 @@
 -- The lines of bytes, cut at a newline, and of bytes that more are added to.
-use Rattle.std.proofs.Common.{◌≡◌, ℕ, Bool, true, false, cond, List, [], ◌∷◌, ◌++◌, refl, sym, ap, ◌∙◌, subst, append_assoc, append-nil}
-use Rattle.std.proofs.lemmas.List.Elements.{All-nil, All-cons, All-append}
+use Rattle.std.proofs.Common.{◌≡◌, ℕ, Bool, true, false, cond, List, [], ◌∷◌, ◌++◌, ◌+◌, suc, length, length-append, refl, sym, ap, ◌∙◌, subst, append_assoc, append-nil}
+use Rattle.std.proofs.lemmas.List.Elements.{All-nil, All-cons, All-head, All-tail, All-append}
 use Rattle.std.proofs.lemmas.List.Splits.{slice_split_at, slice_split_none, slice_split-cons_yes, slice_split-cons_no}
 use Rattle.std.specs.List.{slice_split, onto_first}
-use Rattle.band_rules.specs.Script.{is_newline, ended_parts, last_part, lines_of, rest_of}
-use Rattle.band_play.specs.Lines.{HasNoNewline}
+use Rattle.band_rules.specs.Script.{ended_parts, last_part, lines_of, rest_of}
+use Rattle.band_play.specs.Lines.{HasNoNewline, is_newline}
 use Rattle.band_balance.proofs.Held.{by_bool}
 
 -- bytes have a part, if only an empty one
@@ -92,7 +92,8 @@ lines_after-byte : (byte : ℕ) (bytes more : List ℕ) → is_newline byte ≡ 
     → lines_of (byte ∷ (bytes ++ more)) ≡ lines_of (byte ∷ bytes) ++ lines_of (rest_of (byte ∷ bytes) ++ more)
 lines_after-byte byte bytes more other h =
     lines_of-byte byte (bytes ++ more) other ∙ ap (λ l. onto_line byte l) h ∙ onto_line-append byte (lines_of bytes) (rest_of bytes) more other
-    ∙ sym (ap (λ l. l ++ lines_of (rest_of (byte ∷ bytes) ++ more)) (lines_of-byte byte bytes other) ∙ ap (λ r. onto_line byte (lines_of bytes) ++ lines_of (r ++ more)) (rest_of-byte byte bytes other))
+    ∙ sym (ap (λ l. l ++ lines_of (rest_of (byte ∷ bytes) ++ more)) (lines_of-byte byte bytes other)
+    ∙ ap (λ r. onto_line byte (lines_of bytes) ++ lines_of (r ++ more)) (rest_of-byte byte bytes other))
 
 pub lines_of-append : (bytes more : List ℕ) → lines_of (bytes ++ more) ≡ lines_of bytes ++ lines_of (rest_of bytes ++ more)
 lines_of-append [] more = refl
@@ -116,6 +117,17 @@ rest_of-append (byte ∷ bytes) more =
     by_bool (is_newline byte)
     (λ ends. rest_of-newline byte (bytes ++ more) ends ∙ h ∙ sym (ap (λ r. rest_of (r ++ more)) (rest_of-newline byte bytes ends)))
     (λ other. rest_after-byte byte bytes more other h)
+
+-- bytes without a newline end no line
+onto_line-length : (byte : ℕ) (lines : List (List ℕ)) → length (onto_line byte lines) ≡ length lines
+onto_line-length byte [] = refl
+onto_line-length byte (line ∷ lines) = refl
+
+lines_after-free : (bytes more : List ℕ) → HasNoNewline bytes → length (lines_of (bytes ++ more)) ≡ length (lines_of more)
+lines_after-free [] more none = refl
+lines_after-free (byte ∷ bytes) more none =
+    ap length (lines_of-byte byte (bytes ++ more) (All-head (λ b. is_newline b ≡ false) byte bytes none)) ∙ onto_line-length byte (lines_of (bytes ++ more))
+    ∙ lines_after-free bytes more (All-tail (λ b. is_newline b ≡ false) byte bytes none)
 
 -- no newline stands after the last one
 free_onto : (byte : ℕ) (lines : List (List ℕ)) (rest : List ℕ) → is_newline byte ≡ false → HasNoNewline rest → HasNoNewline (onto_rest byte lines rest)
@@ -154,3 +166,9 @@ lines_of-rest bytes more none =
 
 pub rest_of-rest : (bytes more : List ℕ) → HasNoNewline more → rest_of (bytes ++ more) ≡ rest_of bytes ++ more
 rest_of-rest bytes more none = rest_of-append bytes more ∙ rest_of-none (rest_of bytes ++ more) (free_with bytes more none)
+
+-- how many lines end in bytes that more are added to
+pub count_lines-append : (bytes more : List ℕ) → length (lines_of (bytes ++ more)) ≡ length (lines_of bytes) + length (lines_of more)
+count_lines-append bytes more =
+    ap length (lines_of-append bytes more) ∙ length-append (lines_of bytes) (lines_of (rest_of bytes ++ more))
+    ∙ ap (λ n. length (lines_of bytes) + n) (lines_after-free (rest_of bytes) more (rest_is_free bytes))

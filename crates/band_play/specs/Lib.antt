@@ -4,3 +4,4 @@ pub mod Play
 pub use Rattle.band_player.specs.Player
 pub mod Playing
 pub mod Text
+pub mod Visits

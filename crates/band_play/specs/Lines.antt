@@ -1,5 +1,5 @@
 -- How the lines of a script are told.
-use Rattle.std.specs.Prelude.{◌≡◌, ℕ, false, List, ◌++◌}
+use Rattle.std.specs.Prelude.{◌≡◌, ℕ, Bool, false, ◌==◌, List, ◌++◌}
 use Rattle.std.specs.List.{All}
 use Rattle.band_script.specs.declared.call.Call.{Call}
 use Rattle.band_player.specs.declared.player.Player.{Player}
@@ -7,7 +7,9 @@ use Rattle.band_rules.specs.State.{State}
 use Rattle.band_rules.specs.Step.{step}
 use Rattle.band_rules.specs.Text.{effect_text}
 use Rattle.band_player.specs.Player.{StandsFor}
-use Rattle.band_rules.specs.Script.{is_newline}
+
+abbrev pub is_newline : ℕ → Bool
+is_newline byte = byte == 10
 
 -- no newline stands in it
 abbrev pub HasNoNewline : List ℕ → Type 0

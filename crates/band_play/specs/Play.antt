@@ -1,5 +1,6 @@
 -- What playing a script promises.
-use Rattle.std.specs.Prelude.{◌≡◌, ◌≢◌, ℕ, ◌+◌, ◌≤◌, ◌⊎◌, List, [], ◌∷◌, ◌++◌, length, codes, Option, Some, None, IsSome, Result, Ok, Err}
+use Rattle.std.specs.Prelude.{◌≡◌, ◌≢◌, ℕ, ◌+◌, ◌≤◌, ◌⊎◌, List, [], ◌∷◌, ◌++◌, length, codes, Option, Some}
+use Rattle.std.specs.Prelude.{None, IsSome, Result, Ok, Err}
 use Rattle.std.specs.List.{AllByRecursion}
 use Rattle.std.specs.Io.KnownBytes.{Appends, IsAtEnd}
 use Rattle.band_base.specs.Device.{AppendsPrefix, Rose}
@@ -7,9 +8,11 @@ use Rattle.band_play.specs.Text.{fault_text, usage_text}
 use Rattle.band_play.specs.declared.fault.PlayFault.{PlayFault}
 use Rattle.band_play.specs.declared.fault.PlayFault.TheVariants as faults
 use Rattle.band_script.specs.Grammar.{call_of}
-use Rattle.band_rules.specs.Script.{Verdict, Good, Malformed, TooLong, verdict, lines_of, calls_of, calls_within, transcript}
+use Rattle.band_rules.specs.Script.{Verdict, Good, Malformed, TooLong, verdict, lines_of, calls_of}
+use Rattle.band_rules.specs.Script.{calls_within, transcript}
 
--- a source or a sink, before and after: the bytes that it tells, which it has left or which were written, and its count of faults
+-- a source or a sink, before and after: the bytes that it tells, which it has left or which were written, and
+-- its count of faults
 pub record End : Type 0 where
   pub before : Option (List ℕ)
   pub after : Option (List ℕ)
@@ -18,7 +21,12 @@ pub record End : Type 0 where
 
 -- from how its bytes and its faults are told
 abbrev pub end_of : {D : Type 0} → (D → Option (List ℕ)) → (D → ℕ) → D → D → End
-end_of bytes faults old new = record { before = bytes old; after = bytes new; faults = faults old; faults_now = faults new }
+end_of bytes faults old new = record {
+  before = bytes old;
+  after = bytes new;
+  faults = faults old;
+  faults_now = faults new;
+}
 
 -- its count of faults rose, or stands at the largest number
 abbrev pub HasFailed : End → Type 0
@@ -30,13 +38,15 @@ Gave P None left = Unit {0}
 Gave P (Some bytes) None = ⊥
 Gave P (Some bytes) (Some left) = (given : List ℕ) × (bytes ≡ given ++ left) × P given
 
--- where the source told its bytes: this is their outcome, and exactly the transcript of their calls was written
+-- where the source told its bytes: this is their outcome, and exactly the transcript of their calls was
+-- written
 abbrev pub Comes : Verdict → ℕ → Option (List ℕ) → Option (List ℕ) → Option (List ℕ) → Type 0
 Comes outcome limit None before after = Unit {0}
 Comes outcome limit (Some bytes) before after =
     (verdict limit bytes ≡ outcome) × Appends before after (transcript (calls_within limit bytes))
 
--- these bytes were given within the limit, each of their ended lines stands for a call, and exactly the transcript of those was written
+-- these bytes were given within the limit, each of their ended lines stands for a call, and exactly the
+-- transcript of those was written
 pub record PlaysGiven (limit : ℕ) (given : List ℕ) (before after : Option (List ℕ)) : Type 0 where
   pub within : length given ≤ limit
   pub each : AllByRecursion (λ line. IsSome (call_of line)) (lines_of given)
@@ -44,17 +54,22 @@ pub record PlaysGiven (limit : ℕ) (given : List ℕ) (before after : Option (L
 
 -- what each answer says
 abbrev pub Answers : Result ℕ PlayFault → ℕ → End → End → Type 0
-Answers (Ok lines) limit source sink = Comes (Good lines) limit source.before sink.before sink.after × IsAtEnd source.after
-Answers (Err (faults.Malformed line)) limit source sink = Comes (Malformed line) limit source.before sink.before sink.after
+Answers (Ok lines) limit source sink = Comes (Good lines) limit source.before sink.before sink.after
+    × IsAtEnd source.after
+Answers (Err (faults.Malformed line)) limit source sink =
+    Comes (Malformed line) limit source.before sink.before sink.after
 Answers (Err faults.TooLong) limit source sink =
-    Comes TooLong limit source.before sink.before sink.after × Gave (λ given. length given ≡ limit + 1) source.before source.after
+    Comes TooLong limit source.before sink.before sink.after
+    × Gave (λ given. length given ≡ limit + 1) source.before source.after
 Answers (Err faults.Read) limit source sink =
     HasFailed source × Gave (λ given. PlaysGiven limit given sink.before sink.after) source.before source.after
 Answers (Err faults.Write) limit source sink = HasFailed sink
 Answers (Err faults.NoMemory) limit source sink = Unit {0}
 
--- Of what was given, whatever the answer is: it is at most one byte more than the limit, and a prefix of the transcript of its lines
--- was written. But for at most 4096 bytes at its end, it stands within the limit, each of its ended lines stands for a call, and what
+-- Of what was given, whatever the answer is: it is at most one byte more than the limit, and a prefix of the
+-- transcript of its lines
+-- was written. But for at most 4096 bytes at its end, it stands within the limit, each of its ended lines
+-- stands for a call, and what
 -- was written begins with their transcript.
 pub record KeepsUp (limit : ℕ) (given : List ℕ) (before after : Option (List ℕ)) : Type 0 where
   pub takes : length given ≤ limit + 1
@@ -67,7 +82,8 @@ pub record KeepsUp (limit : ℕ) (given : List ℕ) (before after : Option (List
   pub each : AllByRecursion (λ line. IsSome (call_of line)) (lines_of played)
   pub answered : (text : List ℕ) × Appends before after (transcript (calls_of (lines_of played)) ++ text)
 
--- The promise of `play`. Where neither end has failed, its answer is the outcome, or that there was no memory.
+-- The promise of `play`. Where neither end has failed, its answer is the outcome, or that there was no
+-- memory.
 pub record Plays (limit : ℕ) (source sink : End) (answer : Result ℕ PlayFault) : Type 0 where
   pub answers : Answers answer limit source sink
   pub keeps_up : Gave (λ given. KeepsUp limit given sink.before sink.after) source.before source.after
@@ -91,20 +107,24 @@ status_of faults.NoMemory = 7
 
 -- a text was told: all of it, or a prefix of it where the sink has failed
 abbrev pub Told : List ℕ → End → Type 0
-Told text sink = Appends sink.before sink.after text ⊎ (AppendsPrefix text sink.before sink.after × HasFailed sink)
+Told text sink = Appends sink.before sink.after text ⊎
+    (AppendsPrefix text sink.before sink.after × HasFailed sink)
 
 -- a text was told with its status; or there was no memory for that, and so a prefix of it with status 7
 abbrev pub ToldWith : ℕ → List ℕ → ℕ → End → Type 0
 ToldWith own text status sink =
     ((status ≡ own) × Told text sink) ⊎ ((status ≡ 7) × AppendsPrefix text sink.before sink.after)
 
--- the program ends as an answer of `play` says: where all is well with nothing told, else with the text of the fault
+-- the program ends as an answer of `play` says: where all is well with nothing told, else with the text of
+-- the fault
 abbrev pub EndsWith : Result ℕ PlayFault → ℕ → End → Type 0
 EndsWith (Ok lines) status sink = status ≡ 0
 EndsWith (Err fault) status sink = ToldWith (status_of fault) (fault_text fault ++ 10 ∷ []) status sink
 
--- the promise of the program: `play` is its one word, and it plays and ends with the answer of that; or it tells how it is used
+-- the promise of the program: `play` is its one word, and it plays and ends with the answer of that; or it
+-- tells how it is used
 abbrev pub Runs : List (List ℕ) → End → End → End → ℕ → Type 0
 Runs words source sink told status =
-    ((words ≡ codes "play" ∷ []) × ((answer : Result ℕ PlayFault) × Plays program_limit source sink answer × EndsWith answer status told))
+    ((words ≡ codes "play" ∷ []) × ((answer : Result ℕ PlayFault) × Plays program_limit source sink answer
+    × EndsWith answer status told))
     ⊎ ((words ≢ codes "play" ∷ []) × ToldWith 2 (usage_text ++ 10 ∷ []) status told)

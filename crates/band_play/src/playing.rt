@@ -2,7 +2,8 @@
 ghost use Rattle.std.specs.Prelude.{◌≡◌, ◌+◌, ◌<◌, ◌≤◌, [], ◌++◌, length, OnOk, OnErr, IfOk, IfErr, Err, string_bytes};
 ghost use Rattle.std.specs.Io.KnownBytes.{Appends};
 ghost use Rattle.band_base.specs.Device.{Rose, AppendsPrefix};
-ghost use Rattle.band_player.specs.Player.{wakers_left};
+ghost use Rattle.band_player.specs.Player.{wakers_left, load_of};
+ghost use Rattle.band_play.specs.Visits.{PaysLines, CountsPiece, CountsFault, count_lines};
 ghost use Rattle.band_play.specs.Playing.{HasRun, RunsPiece, PlaysPiece, StopsInPiece, AddsSome, answer_at_end};
 
 use crate::held::HeldLine;
@@ -31,6 +32,7 @@ impl Playing {
         ensures emptied { string_bytes result.text ≡ [] }
         ensures quiet { wakers_left result.player ≡ [] }
         ensures lines { result.lines ≡ 0 }
+        ensures load { load_of result.player ≡ 0 }
     {
         Playing {
             player: Player::new(alloc),
@@ -57,6 +59,9 @@ impl Playing {
         ensures adds { AddsSome (D.written dst.old) (D.written dst.new) }
         ensures quiet { OnOk result (wakers_left self.new.player ≡ []) }
         ensures lines { OnOk result (self.new.lines ≤ self.old.lines + length piece.now) }
+        ensures visits { PaysLines (count_lines piece.now) self.old self.new steps.old steps.new }
+        ensures counted { OnOk result (self.new.lines ≡ self.old.lines + count_lines piece.now) }
+        ensures fault { IfErr result (λ fault. CountsFault fault self.old steps.old steps.new) }
         ensures never_fall { D.faults dst.old ≤ D.faults dst.new }
     {
         let malformed = self.run_lines(piece, steps)?;
@@ -78,6 +83,9 @@ impl Playing {
         ensures runs { IfOk result (λ malformed. RunsPiece malformed piece.now self.old self.new) }
         ensures quiet { OnOk result (wakers_left self.new.player ≡ []) }
         ensures lines { OnOk result (self.new.lines ≤ self.old.lines + length piece.now) }
+        ensures visits { PaysLines (count_lines piece.now) self.old self.new steps.old steps.new }
+        ensures counted { IfOk result (λ malformed.
+            CountsPiece malformed piece.now self.old self.new steps.old steps.new) }
     {
         let mut rest = piece;
         while let Some((end, after)) = split_line(rest) {

@@ -2,6 +2,7 @@
 ghost use Rattle.std.specs.Prelude.{◌≡◌, ◌≢◌, ◌↔◌, ◌≤◌, [], ◌∷◌, ◌++◌, codes, map, string_bytes, IsTrue};
 ghost use Rattle.band_play.specs.Play.{Runs, ToldWith, IsStatus, end_of, status_of};
 ghost use Rattle.band_play.specs.Text.{fault_text};
+ghost use Rattle.band_play.specs.Visits.{RunVisits};
 
 use crate::print::push_fault;
 use crate::{PlayFault, play};
@@ -34,6 +35,8 @@ pub fn run<S: Source, D: Sink, E: Sink, L: Ledger>(
     ensures untouched { map string_bytes words.now ≢ codes "play" ∷ [] →
         (src.new ≡ src.old) × (dst.new ≡ dst.old) }
     ensures quiet { result ≡ 0 → err.new ≡ err.old }
+    ensures visits { RunVisits (map string_bytes words.now) (S.left src.old) (S.left src.new) result
+        steps.old steps.new }
     ensures tells_never_fall { E.faults err.old ≤ E.faults err.new }
 {
     if !asks_to_play(words) {

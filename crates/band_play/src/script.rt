@@ -3,6 +3,7 @@ ghost use Rattle.std.specs.Prelude.{◌≡◌, ◌+◌, ◌<◌, ◌≤◌, [], 
 ghost use Rattle.std.specs.Io.KnownBytes.{Consumes, Keeps, IsAtEnd};
 ghost use Rattle.band_base.specs.Device.{Rose};
 ghost use Rattle.band_play.specs.Play.{Plays, end_of};
+ghost use Rattle.band_play.specs.Visits.{VisitsFew};
 
 use crate::PlayFault;
 use crate::playing::Playing;
@@ -23,8 +24,9 @@ pub fn play<S: Source, D: Sink, L: Ledger>(
 ) -> Result<u64, PlayFault>
     // One byte more than the limit is asked for.
     requires { limit < u64.MAX }
-    ensures { Plays limit (end_of S.left S.faults src.old src.new)
+    ensures plays { Plays limit (end_of S.left S.faults src.old src.new)
         (end_of D.written D.faults dst.old dst.new) result }
+    ensures visits { VisitsFew limit (S.left src.old) (S.left src.new) result steps.old steps.new }
 {
     let mut playing = Playing::new(alloc);
     let mut piece = [0; PIECE];

@@ -62,7 +62,8 @@ module _ (place other : ℕ) (apart : other ≡ place → ⊥) where
   shown_there name same = refl
   shown_there name (here {before} {after} was is) = shown_of_other name before was ∙ sym (shown_of_other name after is)
 
-  pub slot_there : (tags : ℕ → Tag) (line : Line ℕ) (name : List ℕ) {before after : Option Thing} → Touched place before after → HasSlotAt tags other line name before → HasSlotAt tags other line name after
+  pub slot_there : (tags : ℕ → Tag) (line : Line ℕ) (name : List ℕ) {before after : Option Thing} → Touched place before after → HasSlotAt tags other line name before
+      → HasSlotAt tags other line name after
   slot_there tags line name same has = has
   slot_there tags line name (here {before} {after} was is) has = go after is
     where
@@ -86,8 +87,10 @@ updated_same table table' it now updated is name =
     by_bool (bytes_eq it name) (λ h. updated.here name h ∙ sym is ∙ ap table (bytes_told.equal it name h)) (updated.others name)
 
 -- another table that shows the same of an object
-pub stands_by : (tags : ℕ → Tag) (table table' : List ℕ → Option Thing) (place : ℕ) (object : ObjectState) (named : Named) → ((name : List ℕ) → shown place name (table name) ≡ shown place name (table' name))
-    → ((name : List ℕ) → HasSlotAt tags place object.line name (table name) → HasSlotAt tags place object.line name (table' name)) → StandsAt tags table place object named → StandsAt tags table' place object named
+pub stands_by : (tags : ℕ → Tag) (table table' : List ℕ → Option Thing) (place : ℕ) (object : ObjectState) (named : Named)
+    → ((name : List ℕ) → shown place name (table name) ≡ shown place name (table' name))
+    → ((name : List ℕ) → HasSlotAt tags place object.line name (table name) → HasSlotAt tags place object.line name (table' name)) → StandsAt tags table place object named
+    → StandsAt tags table' place object named
 stands_by tags table table' place object named shows slots at = record {
   kind = at.kind;
   number = at.number;
@@ -140,7 +143,8 @@ module _ (tags : ℕ → ℕ → Tag) (table : List ℕ → Option Thing) (kept 
   retagged = named_at place tags' tags
 
   -- an object at another place
-  stays_at : (other : ℕ) → (other ≡ place → ⊥) → (kept_other : ObjectState) (another : Named) → StandsAt (tags other) table other kept_other another → StandsAt (retagged other) table' other kept_other another
+  stays_at : (other : ℕ) → (other ≡ place → ⊥) → (kept_other : ObjectState) (another : Named) → StandsAt (tags other) table other kept_other another
+      → StandsAt (retagged other) table' other kept_other another
   stays_at other apart kept_other another at =
       subst (λ (t : ℕ → Tag). StandsAt t table' other kept_other another) (sym (named_at_other place tags' tags other (ne_eqb place other (λ k. apart (sym k)))))
       (stands_by (tags other) table table' other kept_other another (λ name. shown_there place other apart name (touched name))
@@ -150,7 +154,8 @@ module _ (tags : ℕ → ℕ → Tag) (table : List ℕ → Option Thing) (kept 
     abbrev after : Named
     after = record named { object = left }
 
-    each_after : (other : ℕ) (kept_other : ObjectState) (another : Named) → slice_get (slice_set kept place object) other ≡ Some kept_other → slice_get (slice_set state place after) other ≡ Some another
+    each_after : (other : ℕ) (kept_other : ObjectState) (another : Named) → slice_get (slice_set kept place object) other ≡ Some kept_other
+        → slice_get (slice_set state place after) other ≡ Some another
         → StandsAt (retagged other) table' other kept_other another
     each_after other kept_other another kept_at at_other =
         by_bool (place == other)

@@ -1,52 +1,62 @@
 -- What each call comes to in a state that the table stands for, by what the names and the objects say.
-use Rattle.std.proofs.Common.{◌≡◌, ℕ, ◌+◌, ◌-◌, ◌<◌, ◌≤◌, ◌==◌, Bool, true, false, not, cond, List, [], map, length, Option, Some, None, IsSome, Result, Ok, Err, ℤ, pos, ◌+ℤ◌, int_lt, refl, sym, ap, ap₂, ◌∙◌, subst, eqb-true, eq-eqb}
+use Rattle.std.proofs.Common.{◌≡◌, ℕ, ◌+◌, ◌-◌, ◌<◌, ◌≤◌, ◌==◌, Bool, true, false, not, cond, List, [], map, length, Option, Some, None, IsSome, Result, Ok, Err, ℤ, pos, ◌+ℤ◌, int_lt, refl, sym, ap}
+use Rattle.std.proofs.Common.{ap₂, ◌∙◌, subst, eqb-true, eq-eqb}
 use Rattle.std.specs.List.{slice_get, slice_set}
 use Rattle.std.specs.Str.{bytes_eq}
 use Rattle.std.proofs.lemmas.Bool.{cond-true, cond-false, cond_both, true≢false, le-leb, lt-leb}
 use Rattle.std.proofs.lemmas.List.{length-map}
 use Rattle.std.proofs.lemmas.Option.{same_Some}
-use Rattle.band_base.specs.declared.poll.Poll.{Poll}
-use Rattle.band_base.specs.declared.poll.Poll.TheVariants as polls
-use Rattle.band_base.specs.declared.poll.PollError.{PollError}
 use Rattle.band_base.specs.declared.refusal.Refusal.{Refusal}
 use Rattle.band_base.specs.declared.refusal.Refusal.TheVariants as refusals
 use Rattle.band_balance.specs.Line.{Line, AreAlike, requests, total, rename, renamed_waiting, u64_max, is_served, take_permits, give_back, drained, overflows, owes_too_much, available}
-use Rattle.band_balance.specs.Object.{Object, Kind, Mode, Permit, Read, Write, Answer, Done, Ready, Pending, Nothing, Drained, Figures, Turn, size_of, tag, turn, hold, drop_of, split_of, would_overflow, would_owe_too_much}
+use Rattle.band_balance.specs.Object.{Object, Kind, Mode, Permit, Read, Write, Answer, Done, Ready, Pending, Nothing, Drained, Figures, Turn, size_of, tag, turn, hold, size_in}
 use Rattle.band_balance.specs.Rule.{Rule, Fits, act}
-use Rattle.band_balance.specs.Rule.{is as is_tag}
+use Rattle.band_balance.specs.Rule.{has_name as is_tag}
 use Rattle.band_balance.specs.Rule as rules
 use Rattle.band_balance.proofs.Alike.{with_granted, total-alike, take_permits-alike}
 use Rattle.band_balance.proofs.Held.{other_way}
 use Rattle.band_balance.proofs.Rename.{is_served-rename, available-rename, drained-rename, total-renamed}
 use Rattle.band_balance.proofs.Requests.{requests-give_back}
 use Rattle.band_balance.proofs.Rules.{bytes_told}
-use Rattle.band_balance.proofs.Turns.{write_of}
+use Rattle.band_balance.proofs.Turns.{split_by, drop_of, write_of}
 use Rattle.band_rules.specs.declared.reply.Reply.{Reply}
 use Rattle.band_rules.specs.declared.reply.Reply.TheVariants as replies
-use Rattle.band_rules.specs.Plan.{Plan, Refuse, Act, ◌>>=◌, object_of, object_for, asked_object, owner, lender, if_live, refuse_if, asking, trying, plan}
-use Rattle.band_rules.specs.State.{State, Named, Tag, standing}
+use Rattle.band_rules.specs.Plan.{Plan, Refuse, Act, ◌>>=◌, object_of, object_for, asked_object, owner, lender, refuse_if, naming, plan}
+use Rattle.band_rules.specs.State.{State, Named, Tag, Standing, AnObject, standing}
 use Rattle.band_rules.specs.Step.{reply_of, step}
 use Rattle.band_script.specs.declared.call.Call.{Call}
 use Rattle.band_script.specs.declared.call.Call.TheVariants as calls
 use Rattle.band_sem.specs.Request.{NotPolled, Joined}
-use Rattle.band_sem.specs.Semaphore.{taken, given_back, released, reduced, joined, received, forgotten, with_waker, without_request, LaterPoll, PollsAt}
+use Rattle.band_sem.specs.Semaphore.{taken, given_back, released, reduced, joined, received, forgotten, with_waker, without_request, cancelled, LaterPoll, Polls, PollsAt}
 use Rattle.band_player.specs.Kept.{wakes_left, StandsFor, FollowsFrom, DidWork}
-use Rattle.band_player.specs.Moves.{object_place, offering, held_as, mode_of, size_for, kind_at, ask_call, try_call, PollsAs, IsAnswered, PollsThing, PollsName, AsksName, SplitsTo, Grows, Downgrades, FitsHolding, mergeable, mergeable_held, downgraded, DropsThing, permit_answer, GivesIn, cancelled_at}
+use Rattle.band_player.specs.Moves.{object_place, offering, held_as, mode_of, size_for, ask_call, try_call, AsksName, SplitsTo, Grows, Changes, FitsHolding, mergeable, mergeable_held, dropped}
+use Rattle.band_player.specs.Moves.{downgraded}
+use Rattle.band_player.specs.Moves.{PollsRequest, PollsToken, answer_of, left_of, mode_in, reply_for}
 use Rattle.band_player.specs.Names.{thing_at, Updated, is_object}
 use Rattle.band_player.specs.Objects.{ObjectState, RequestState, HoldingState, IsLikeObject, IsSteady, of_kind, shares_of, on_semaphore, in_mode, asked_of, held_in}
 use Rattle.band_player.specs.Table.{HasSlot}
 use Rattle.band_player.specs.Thing.{Thing, place_at}
 use Rattle.band_player.specs.Thing as things
+use Rattle.band_player.specs.Token.{TokenState, thing_of}
+use Rattle.band_player.specs.Token as tokens
 use Rattle.band_player.specs.declared.object.Want.{Want}
 use Rattle.band_player.specs.declared.object.Want.TheVariants as wants
 use Rattle.band_player.specs.declared.table.Table.{Table}
 use Rattle.band_player.proofs.Acting.{IsOf, Touched, same, touched_one, touched_twice, updated_same}
 use Rattle.band_player.proofs.Fitting.{fits_at}
 use Rattle.band_player.proofs.Follow.{Target, target, absent, standing_as, refused, shows, acted, works}
-use Rattle.band_player.proofs.Landing.{line_is, line_as, given_back_is, steady_before, lands_like, takes, joining, joins, stays, slot_of, receives, rewakes, ends, lets_go, held_there, splits, merges, lowers}
+use Rattle.band_player.proofs.Landing.{line_is, line_as, given_back_is, steady_before, lands_like, takes, joining, joins, stays, slot_of, receives, rewakes, ends, lets_go, held_there, splits, merges}
+use Rattle.band_player.proofs.Landing.{lowers}
 use Rattle.band_player.proofs.Lists.{set_itself}
-use Rattle.band_player.proofs.Lookups.{plain_found, object_refused, held_refused, FoundAs, place_held, refuses, held_found, apart_by_place, is_live, taken_name, held_by, Live, live, standing_live, object_there, unused}
-use Rattle.band_player.proofs.Named.{can_merge, two_names, held_from, object_from, same_holding}
+use Rattle.band_player.proofs.Lookups.{if_live, plain_found, object_refused, held_refused, FoundAs, place_held, refuses, held_found, apart_by_place, is_live, taken_name, held_by, Live, live}
+use Rattle.band_player.proofs.Lookups.{standing_live, object_there, unused}
+use Rattle.band_player.proofs.Named.{can_merge, two_names, held_from, object_from, object_is, same_holding}
+
+abbrev asking : Mode → (Kind → ℕ) → List ℕ → List ℕ → ℕ → State → Plan
+asking mode size made of waker state = naming mode size made of (λ n. rules.Ask (tag mode made) n waker) state
+
+abbrev trying : Mode → (Kind → ℕ) → List ℕ → List ℕ → State → Plan
+trying mode size made of state = naming mode size made of (rules.Try (tag mode made)) state
 
 -- what asks for something of an object, and what tries
 pub plan_asks : (want : Want) (made of : List ℕ) (waker : ℕ) (state : State) → plan (ask_call want made of waker) state ≡ asking (mode_of want) (size_for want) made of waker state
@@ -63,9 +73,6 @@ plan_tries wants.Write made of state = refl
 
 pub same_figures : (a a' : ℕ) (f f' : ℤ) (w w' g g' h h' : ℕ) → a ≡ a' → f ≡ f' → w ≡ w' → g ≡ g' → h ≡ h' → replies.Figures a f w g h ≡ replies.Figures a' f' w' g' h'
 same_figures a a' f f' w w' g g' h h' e1 e2 e3 e4 e5 = cc
-
-kind_there : (kept : List ObjectState) (place : ℕ) (object : ObjectState) (kind : Kind) → slice_get kept place ≡ Some object → kind_at (slice_get kept place) ≡ Some kind → kind ≡ object.kind
-kind_there kept place object kind there is = same_Some kind object.kind (sym is ∙ ap kind_at there)
 
 module _ (old : Table) (none : wakes_left old ≡ []) (state : State) (stands : StandsFor old state) (new : Table) where
   abbrev table : List ℕ → Option Thing
@@ -131,29 +138,29 @@ module _ (old : Table) (none : wakes_left old ≡ []) (state : State) (stands : 
         works old none state stands (ask_call want made of waker) (rules.Ask (tag (mode_of want) made) (size_for want object.kind) waker) it.named (asks waker (size_for want object.kind) refl)
         (cond_both (is_served (size_for want object.kind) it.named.object.line) _ _ (λ (t : Turn Tag). DidWork (reply_of t.answer)) (λ h. tt) (λ h. tt))
 
-    pub asked : (waker : ℕ) (n : ℕ) (reply : Reply) (result : Result (Poll HoldingState) PollError) (left : RequestState) (object' : ObjectState) (thing : Thing) → n ≡ size_for want object.kind
-        → PollsAs (record { mode = mode_of want; of = place; size = n; stage = NotPolled }) waker object result left object' → IsAnswered place result left thing reply → IsSteady object'
-        → Updated table table' made (Some thing) → new.objects.items ≡ slice_set kept place object' → new.last ≡ place → FollowsFrom (ask_call want made of waker) reply new state
-    asked waker n reply (Ok (polls.Ready holding)) left object' thing size polled answered steady updated items last =
-        had n object' thing (ask_call want made of waker) (rules.Ask (tag (mode_of want) made) n waker) Ready reply (asks waker n size) (cond-true _ _ _ (served_too n ∙ polled.polled.0))
-        (ap₂ of_kind polled.kind polled.polled.2) steady (answered.0 ∙ ap things.Holding (ap₂ held_in polled.gives polled.polled.1)) updated items last answered.1
-    asked waker n reply (Ok polls.Pending) left object' thing size polled answered steady updated items last =
-        let entered = polled.polled.1 in
+    pub asked : (waker : ℕ) (n : ℕ) (reply : Reply) (left : TokenState) (object' : ObjectState) → n ≡ size_for want object.kind
+        → PollsRequest (record { mode = mode_of want; of = place; size = n; stage = NotPolled }) waker object left reply object'
+        → Updated table table' made (Some (thing_of left)) → new.objects.items ≡ slice_set kept place object' → new.last ≡ place → FollowsFrom (ask_call want made of waker) reply new state
+    asked waker n reply (tokens.Holding holding) object' size p updated items last =
+        had n object' (things.Holding holding) (ask_call want made of waker) (rules.Ask (tag (mode_of want) made) n waker) Ready reply (asks waker n size) (cond-true _ _ _ (served_too n ∙ p.polled.0))
+        (ap₂ of_kind p.kind p.polled.2) p.lawful (ap things.Holding (ap₂ held_in p.mode p.polled.1)) updated items last p.replied
+    asked waker n reply (tokens.Request left) object' size p updated items last =
+        let entered = p.polled.1 in
         let slot = entered.0 in
-        let object_is : object' ≡ on_semaphore (joined slot n waker) object = ap₂ of_kind polled.kind entered.2 in
-        let thing_is : thing ≡ things.Request place (record { mode = mode_of want; of = place; size = n; stage = Joined slot }) = answered.0 ∙ ap (things.Request place) (ap₂ in_mode polled.mode entered.3) in
+        let object_is : object' ≡ on_semaphore (joined slot n waker) object = ap₂ of_kind p.kind entered.2 in
+        let left_is : left ≡ record { mode = mode_of want; of = place; size = n; stage = Joined slot } = ap₂ in_mode p.mode entered.3 in
+        let updated_as = subst (λ (r : RequestState). Updated table table' made (Some (things.Request r.of r))) left_is updated in
+        let steady = subst (λ (o : ObjectState). IsSteady o) object_is p.lawful in
         acted old none state stands (ask_call want made of waker) (rules.Ask (tag (mode_of want) made) n waker) Pending reply new place object (on_semaphore (joined slot n waker) object)
-        (joining it.spot (tag (mode_of want) made) n waker slot table' free entered.1
-        (subst (λ t. Updated table table' made (Some t)) thing_is updated) (subst (λ (o : ObjectState). IsSteady o) object_is steady))
+        (joining it.spot (tag (mode_of want) made) n waker slot table' free entered.1 updated_as steady)
         it there (asks waker n size)
-        (joins it.spot (tag (mode_of want) made) n waker slot table' free entered.1
-        (subst (λ t. Updated table table' made (Some t)) thing_is updated) (subst (λ (o : ObjectState). IsSteady o) object_is steady) (served_too n ∙ polled.polled.0))
-        (touched_one place table table' made (Some thing) updated (subst (IsOf place) (sym free) tt) (subst (λ t. IsOf place (Some t)) (sym thing_is) refl))
-        (items ∙ ap (slice_set kept place) object_is) last answered.1
-    asked waker n reply (Err error) left object' thing size polled answered steady updated items last = absurd answered
+        (joins it.spot (tag (mode_of want) made) n waker slot table' free entered.1 updated_as steady (served_too n ∙ p.polled.0))
+        (touched_one place table table' made _ updated_as (subst (IsOf place) (sym free) tt) refl)
+        (items ∙ ap (slice_set kept place) object_is) last p.replied
 
   -- the name is taken
-  module _ (names : (n : List ℕ) → table' n ≡ table n) (items : new.objects.items ≡ kept) (want : Want) (made of : List ℕ) (place : ℕ) (is : offering (mode_of want) kept (object_place (table of)) ≡ Ok place)
+  module _ (names : (n : List ℕ) → table' n ≡ table n) (items : new.objects.items ≡ kept) (want : Want) (made of : List ℕ) (place : ℕ)
+      (is : offering (mode_of want) kept (object_place (table of)) ≡ Ok place)
       (object : ObjectState) (there : slice_get kept place ≡ Some object) (live_name : IsSome (table made)) where
     found_one : object_for (mode_of want) (standing of state) ≡ Ok (target old none state stands place object there).named
     found_one = object_there old none state stands (mode_of want) of place (target old none state stands place object there).named is (target old none state stands place object there).there
@@ -162,125 +169,125 @@ module _ (old : Table) (none : wakes_left old ≡ []) (state : State) (stands : 
     ask_taken waker =
         refused old none state stands new names items (ask_call want made of waker) refusals.Taken
         (plan_asks want made of waker state
-        ∙ ap₂ (λ one unused. one >>= λ named. unused >>= λ found. Act named (rules.Ask (tag (mode_of want) made) (size_for want named.object.kind) waker)) found_one (taken_name old none state stands made live_name))
+        ∙ ap₂ (λ one unused. one >>= λ named. unused >>= λ found. Act named (rules.Ask (tag (mode_of want) made) (size_for want named.object.kind) waker)) found_one
+        (taken_name old none state stands made live_name))
 
     pub try_taken : FollowsFrom (try_call want made of) (replies.Refused refusals.Taken) new state
     try_taken =
         refused old none state stands new names items (try_call want made of) refusals.Taken
         (plan_tries want made of state
-        ∙ ap₂ (λ one unused. one >>= λ named. unused >>= λ found. Act named (rules.Try (tag (mode_of want) made) (size_for want named.object.kind))) found_one (taken_name old none state stands made live_name))
+        ∙ ap₂ (λ one unused. one >>= λ named. unused >>= λ found. Act named (rules.Try (tag (mode_of want) made) (size_for want named.object.kind))) found_one
+        (taken_name old none state stands made live_name))
 
   -- a new name is asked for
   pub asks_name : (want : Want) (made of : List ℕ) (waker place : ℕ) (reply : Reply) → offering (mode_of want) kept (object_place (table of)) ≡ Ok place → table made ≡ None
-      → AsksName made place want waker table table' kept new.objects.items reply → new.last ≡ place → FollowsFrom (ask_call want made of waker) reply new state
-  asks_name want made of waker place reply is free a last =
-      let p = a.asked.polls in
-      asked want made of place is free p.before p.there waker (size_for want a.asked.kind) reply p.result p.left p.after a.left
-      (ap (size_for want) (kind_there kept place p.before a.asked.kind p.there a.asked.there)) p.polled p.answered p.lawful a.updated p.set last
+      → (object object' : ObjectState) → slice_get kept place ≡ Some object → object.number ≡ place → AsksName made want waker table table' object object' reply
+      → new.objects.items ≡ slice_set kept place object' → new.last ≡ place → FollowsFrom (ask_call want made of waker) reply new state
+  asks_name want made of waker place reply is free object object' there number a items last =
+      asked want made of place is free object there waker (size_for want object.kind) reply a.left object' refl
+      (subst (λ k. PollsRequest (record { mode = mode_of want; of = k; size = size_for want object.kind; stage = NotPolled }) waker object a.left reply object') number a.polled)
+      a.updated items last
 
   -- A later poll.
-  polls_again : (name : List ℕ) (waker place : ℕ) (request : RequestState) → table name ≡ Some (things.Request place request) → (object : ObjectState) (there : slice_get kept place ≡ Some object)
-      → (reply : Reply) (result : Result (Poll HoldingState) PollError) (left : RequestState) (object' : ObjectState) (thing : Thing) → PollsAs request waker object result left object' → IsAnswered place result left thing reply
-      → IsSteady object' → Updated table table' name (Some thing) → new.objects.items ≡ slice_set kept place object' → new.last ≡ place → FollowsFrom (calls.Poll name waker) reply new state
-  polls_again name waker place request is object there reply result left object' thing polled answered steady updated items last =
-      go result left thing polled.kind polled.mode polled.gives later answered updated
+  polls_again : (name : List ℕ) (waker : ℕ) (request : RequestState) → table name ≡ Some (things.Request request.of request) → (object : ObjectState) (there : slice_get kept request.of ≡ Some object)
+      → (reply : Reply) (left : TokenState) (object' : ObjectState) → PollsRequest request waker object left reply object'
+      → Updated table table' name (Some (thing_of left)) → new.objects.items ≡ slice_set kept request.of object' → new.last ≡ request.of → FollowsFrom (calls.Poll name waker) reply new state
+  polls_again name waker request is object there reply left object' p updated items last = go left p.polled p.mode p.replied updated
     where
-      it : Target old none state stands place object
-      it = target old none state stands place object there
+      it : Target old none state stands request.of object
+      it = target old none state stands request.of object there
 
-      has : HasSlot (stands.tags place) place object.line name request
+      has : HasSlot (stands.tags request.of) request.of object.line name request
       has = slot_of it.spot name request is
 
-      later : LaterPoll has.slot (asked_of request) waker (shares_of object) (permit_answer result) (asked_of left) (shares_of object')
-      later = subst (λ stage. PollsAt stage (asked_of request) waker (shares_of object) (permit_answer result) (asked_of left) (shares_of object')) has.joined polled.polled
-
       planned : plan (calls.Poll name waker) state ≡ Act it.named (rules.Poll name waker)
-      planned = ap (λ s. asked_object s >>= λ of. Act of (rules.Poll name waker)) (standing_as old none state stands name (things.Request place request) object it is)
+      planned = ap (λ s. asked_object s >>= λ of. Act of (rules.Poll name waker)) (standing_as old none state stands name (things.Request request.of request) object it is)
 
-      go : (result : Result (Poll HoldingState) PollError) (left : RequestState) (thing : Thing) → object'.kind ≡ object.kind → left.mode ≡ request.mode → GivesIn request.mode result
-          → LaterPoll has.slot (asked_of request) waker (shares_of object) (permit_answer result) (asked_of left) (shares_of object') → IsAnswered place result left thing reply
-          → Updated table table' name (Some thing) → FollowsFrom (calls.Poll name waker) reply new state
-      go (Ok (polls.Ready holding)) left thing kind mode gives later answered updated =
-          let object_is : object' ≡ on_semaphore (received has.slot request.size) object = ap₂ of_kind kind later.2 in
-          let thing_is : thing ≡ things.Holding (record { mode = request.mode; of = place; count = request.size }) = answered.0 ∙ ap things.Holding (ap₂ held_in gives (later.1 ∙ ap (λ k. record { of = k; count = request.size }) has.of)) in
-          acted old none state stands (calls.Poll name waker) (rules.Poll name waker) Ready reply new place object (on_semaphore (received has.slot request.size) object) (stands.tags place) it there planned
-          (receives it.spot name request is table' waker later.0
-          (subst (λ t. Updated table table' name (Some t)) thing_is updated) (subst (λ (o : ObjectState). IsSteady o) object_is steady))
-          (touched_one place table table' name (Some thing) updated (subst (IsOf place) (sym is) refl) (subst (λ t. IsOf place (Some t)) (sym thing_is) refl))
-          (items ∙ ap (slice_set kept place) object_is) last answered.1
-      go (Ok polls.Pending) left thing kind mode gives later answered updated =
-          let object_is : object' ≡ on_semaphore (with_waker has.slot waker) object = ap₂ of_kind kind later.1 in
-          let thing_is : thing ≡ things.Request place request = answered.0 ∙ ap (things.Request place) (ap₂ in_mode mode later.2) in
-          acted old none state stands (calls.Poll name waker) (rules.Poll name waker) Pending reply new place object (on_semaphore (with_waker has.slot waker) object) (stands.tags place) it there planned
-          (rewakes it.spot name request is table' waker later.0
-          (subst (λ t. Updated table table' name (Some t)) thing_is updated) (subst (λ (o : ObjectState). IsSteady o) object_is steady))
-          (touched_one place table table' name (Some thing) updated (subst (IsOf place) (sym is) refl) (subst (λ t. IsOf place (Some t)) (sym thing_is) refl))
-          (items ∙ ap (slice_set kept place) object_is) last answered.1
-      go (Err error) left thing kind mode gives later answered updated = absurd answered
+      later : (left : TokenState) → Polls (asked_of request) waker (shares_of object) (answer_of left) (left_of request left) (shares_of object')
+          → LaterPoll has.slot (asked_of request) waker (shares_of object) (answer_of left) (left_of request left) (shares_of object')
+      later left polled = subst (λ stage. PollsAt stage (asked_of request) waker (shares_of object) (answer_of left) (left_of request left) (shares_of object')) has.joined polled
 
-  pub polls_name : (name : List ℕ) (waker place : ℕ) (reply : Reply) → PollsName name waker table table' kept new.objects.items place reply → new.last ≡ place → FollowsFrom (calls.Poll name waker) reply new state
-  polls_name name waker place reply p last = go p.found p.was p.polled p.at
-    where
-      -- what refuses it is what it was before
-      unchanged : (found : Thing) → table name ≡ Some found → p.left ≡ found → (n : List ℕ) → table' n ≡ table n
-      unchanged found was left = updated_same table table' name (Some p.left) p.updated (was ∙ ap Some (sym left))
+      go : (left : TokenState) → Polls (asked_of request) waker (shares_of object) (answer_of left) (left_of request left) (shares_of object') → mode_in left ≡ request.mode → reply ≡ reply_for left
+          → Updated table table' name (Some (thing_of left)) → FollowsFrom (calls.Poll name waker) reply new state
+      go (tokens.Holding holding) polled mode replied updated =
+          let l = later (tokens.Holding holding) polled in
+          let object_is : object' ≡ on_semaphore (received has.slot request.size) object = ap₂ of_kind p.kind l.2 in
+          let holding_is : holding ≡ record { mode = request.mode; of = request.of; count = request.size } = ap₂ held_in mode l.1 in
+          acted old none state stands (calls.Poll name waker) (rules.Poll name waker) Ready reply new request.of object (on_semaphore (received has.slot request.size) object)
+          (stands.tags request.of) it there planned
+          (receives it.spot name request is table' waker l.0
+          (subst (λ h. Updated table table' name (Some (things.Holding h))) holding_is updated) (subst (λ (o : ObjectState). IsSteady o) object_is p.lawful))
+          (touched_one request.of table table' name (Some (things.Holding holding)) updated (subst (IsOf request.of) (sym is) refl) (ap (λ (h : HoldingState). h.of) holding_is))
+          (items ∙ ap (slice_set kept request.of) object_is) last replied
+      go (tokens.Request left) polled mode replied updated =
+          let l = later (tokens.Request left) polled in
+          let object_is : object' ≡ on_semaphore (with_waker has.slot waker) object = ap₂ of_kind p.kind l.1 in
+          let left_is : left ≡ request = ap₂ in_mode mode l.2 in
+          acted old none state stands (calls.Poll name waker) (rules.Poll name waker) Pending reply new request.of object (on_semaphore (with_waker has.slot waker) object)
+          (stands.tags request.of) it there planned
+          (rewakes it.spot name request is table' waker l.0
+          (subst (λ (r : RequestState). Updated table table' name (Some (things.Request r.of r))) left_is updated) (subst (λ (o : ObjectState). IsSteady o) object_is p.lawful))
+          (touched_one request.of table table' name (Some (things.Request left.of left)) updated (subst (IsOf request.of) (sym is) refl) (ap (λ (r : RequestState). r.of) left_is))
+          (items ∙ ap (slice_set kept request.of) object_is) last replied
 
-      standing_is : (found : Thing) → table name ≡ Some found → Live old none state stands (place_at found)
-      standing_is found was = live old none state stands name found was
+  pub polls_token : (name : List ℕ) (waker : ℕ) (reply : Reply) (found left : TokenState) (object object' : ObjectState) → table name ≡ Some (thing_of found)
+      → slice_get kept (place_at (thing_of found)) ≡ Some object → PollsToken found waker object left reply object' → Updated table table' name (Some (thing_of left))
+      → new.objects.items ≡ slice_set kept (place_at (thing_of found)) object' → new.last ≡ place_at (thing_of found) → FollowsFrom (calls.Poll name waker) reply new state
+  polls_token name waker reply (tokens.Request request) left object object' was there polled updated items last =
+      polls_again name waker request was object there reply left object' polled updated items last
+  polls_token name waker reply (tokens.Holding holding) left object object' was there (left_is, replied, object_is) updated items last =
+      subst (λ r. FollowsFrom (calls.Poll name waker) r new state) (sym replied)
+      (refused old none state stands new (updated_same table table' name (Some (thing_of left)) updated (was ∙ ap (λ t. Some (thing_of t)) (sym left_is)))
+      (items ∙ ap (slice_set kept holding.of) object_is ∙ set_itself kept holding.of object there) (calls.Poll name waker) refusals.Finished
+      (ap (λ s. asked_object s >>= λ of. Act of (rules.Poll name waker)) (standing_live old none state stands name (things.Holding holding) was)))
 
-      go : (found : Thing) → table name ≡ Some found → PollsThing found waker kept p.left reply new.objects.items → place ≡ place_at found → FollowsFrom (calls.Poll name waker) reply new state
-      go (things.Object other) was polled at =
-          subst (λ r. FollowsFrom (calls.Poll name waker) r new state) (sym polled.1)
-          (refused old none state stands new (unchanged (things.Object other) was polled.0) polled.2 (calls.Poll name waker) refusals.Kind
-          (ap (λ s. asked_object s >>= λ of. Act of (rules.Poll name waker)) (standing_live old none state stands name (things.Object other) was)))
-      go (things.Holding holding) was polled at =
-          subst (λ r. FollowsFrom (calls.Poll name waker) r new state) (sym polled.1)
-          (refused old none state stands new (unchanged (things.Holding holding) was polled.0) polled.2 (calls.Poll name waker) refusals.Finished
-          (ap (λ s. asked_object s >>= λ of. Act of (rules.Poll name waker)) (standing_live old none state stands name (things.Holding holding) was)))
-      go (things.Request other request) was polled at =
-          polls_again name waker other request was polled.before polled.there reply polled.result polled.left polled.after p.left polled.polled polled.answered polled.lawful p.updated polled.set (last ∙ at)
+  -- An object is neither polled nor dropped.
+  module _ (name : List ℕ) (is : is_object (table name) ≡ true) (names : (n : List ℕ) → table' n ≡ table n) (items : new.objects.items ≡ kept) where
+    kind_refused : (call : Call) (then : Standing → Plan) → plan call state ≡ then (standing name state) → ((named : Named) → then (AnObject named) ≡ Refuse refusals.Kind)
+        → FollowsFrom call (replies.Refused refusals.Kind) new state
+    kind_refused call then planned refuses =
+        let it = object_is (table name) is in
+        refused old none state stands new names items call refusals.Kind
+        (planned ∙ ap then (standing_live old none state stands name (things.Object it.0) it.1) ∙ refuses (live old none state stands name (things.Object it.0) it.1).it.named)
 
-  pub polls_nothing : (name : List ℕ) (waker : ℕ) → table name ≡ None → ((n : List ℕ) → table' n ≡ table n) → new.objects.items ≡ kept → FollowsFrom (calls.Poll name waker) (replies.Refused refusals.Unknown) new state
-  polls_nothing name waker free names items =
-      refused old none state stands new names items (calls.Poll name waker) refusals.Unknown (ap (λ s. asked_object s >>= λ of. Act of (rules.Poll name waker)) (absent old none state stands name free))
+    pub polls_object : (waker : ℕ) → FollowsFrom (calls.Poll name waker) (replies.Refused refusals.Kind) new state
+    polls_object waker = kind_refused (calls.Poll name waker) (λ s. asked_object s >>= λ of. Act of (rules.Poll name waker)) refl (λ named. refl)
+
+    pub drops_object : FollowsFrom (calls.Drop name) (replies.Refused refusals.Kind) new state
+    drops_object = kind_refused (calls.Drop name) (λ s. owner s >>= λ of. Act of (rules.Drop name)) refl (λ named. refl)
+
+  pub polls_nothing : (name : List ℕ) (waker : ℕ) (refusal : Refusal) → refusal ≡ refusals.Unknown → table name ≡ None → ((n : List ℕ) → table' n ≡ table n) → new.objects.items ≡ kept
+      → FollowsFrom (calls.Poll name waker) (replies.Refused refusal) new state
+  polls_nothing name waker refusal is free names items =
+      refused old none state stands new names items (calls.Poll name waker) refusal
+      (ap (λ s. asked_object s >>= λ of. Act of (rules.Poll name waker)) (absent old none state stands name free) ∙ ap Refuse (sym is))
 
   -- A name that is no object ends.
-  pub drops_name : (name : List ℕ) (thing : Thing) → is_object (table name) ≡ false → table name ≡ Some thing → DropsThing thing kept new.objects.items → Updated table table' name None → new.last ≡ place_at thing
-      → FollowsFrom (calls.Drop name) replies.Done new state
-  drops_name name (things.Object place) plain is dropped updated last = absurd (true≢false (sym (ap is_object is) ∙ plain))
-  drops_name name (things.Holding holding) plain is dropped updated last =
-      let it = target old none state stands holding.of dropped.before dropped.there in
-      let given = on_semaphore (given_back holding.count) dropped.before in
-      acted old none state stands (calls.Drop name) (rules.Drop name) Done replies.Done new holding.of dropped.before dropped.after (stands.tags holding.of) it dropped.there
-      (ap (λ s. owner s >>= λ of. Act of (rules.Drop name)) (standing_as old none state stands name (things.Holding holding) dropped.before it is))
-      (lands_like given dropped.after dropped.like dropped.lawful it.named holding.of (rules.Drop name) Done (stands.tags holding.of) table'
+  pub drops_name : (name : List ℕ) (token : TokenState) → table name ≡ Some (thing_of token) → Changes (place_at (thing_of token)) kept new.objects.items (dropped token)
+      → Updated table table' name None → new.last ≡ place_at (thing_of token) → FollowsFrom (calls.Drop name) replies.Done new state
+  drops_name name (tokens.Holding holding) is c updated last =
+      let it = target old none state stands holding.of c.before c.there in
+      let given = on_semaphore (given_back holding.count) c.before in
+      acted old none state stands (calls.Drop name) (rules.Drop name) Done replies.Done new holding.of c.before c.after (stands.tags holding.of) it c.there
+      (ap (λ s. owner s >>= λ of. Act of (rules.Drop name)) (standing_as old none state stands name (things.Holding holding) c.before it is))
+      (lands_like given c.after c.like c.lawful it.named holding.of (rules.Drop name) Done (stands.tags holding.of) table'
       (lets_go it.spot name holding refl is (rules.Drop name) table' given
       (give_back holding.count it.named.object.line)
       (ap (λ o. drop_of o (is_tag bytes_eq name) it.named.object) (held_there it.spot name holding refl is))
       (given_back_is it.spot holding.count)
-      refl refl refl (steady_before given dropped.after dropped.like dropped.lawful)
-      (requests-give_back holding.count it.named.object.line) (requests-give_back holding.count dropped.before.line) updated))
-      (touched_one holding.of table table' name None updated (subst (IsOf holding.of) (sym is) refl) tt) dropped.set last refl
-  drops_name name (things.Request place request) plain is dropped updated last =
-      let it = target old none state stands place dropped.before dropped.there in
+      refl refl refl (steady_before given c.after c.like c.lawful)
+      (requests-give_back holding.count it.named.object.line) (requests-give_back holding.count c.before.line) updated))
+      (touched_one holding.of table table' name None updated (subst (IsOf holding.of) (sym is) refl) tt) c.set last refl
+  drops_name name (tokens.Request request) is c updated last =
+      let it = target old none state stands request.of c.before c.there in
       let has = slot_of it.spot name request is in
-      let ended = on_semaphore (without_request has.slot) dropped.before in
-      let like : IsLikeObject ended dropped.after = subst (λ stage. IsLikeObject (cancelled_at stage dropped.before) dropped.after) has.joined dropped.like in
-      acted old none state stands (calls.Drop name) (rules.Drop name) Done replies.Done new place dropped.before dropped.after (stands.tags place) it dropped.there
-      (ap (λ s. owner s >>= λ of. Act of (rules.Drop name)) (standing_as old none state stands name (things.Request place request) dropped.before it is))
-      (lands_like ended dropped.after like dropped.lawful it.named place (rules.Drop name) Done (stands.tags place) table'
-      (ends it.spot name request is table' updated (steady_before ended dropped.after like dropped.lawful)))
-      (touched_one place table table' name None updated (subst (IsOf place) (sym is) refl) tt) dropped.set last refl
-
-  pub drops_object : (name : List ℕ) → is_object (table name) ≡ true → ((n : List ℕ) → table' n ≡ table n) → new.objects.items ≡ kept → FollowsFrom (calls.Drop name) (replies.Refused refusals.Kind) new state
-  drops_object name is names items = go (table name) refl is
-    where
-      go : (o : Option Thing) → table name ≡ o → is_object o ≡ true → FollowsFrom (calls.Drop name) (replies.Refused refusals.Kind) new state
-      go None was is = cc
-      go (Some (things.Object place)) was is =
-          refused old none state stands new names items (calls.Drop name) refusals.Kind (ap (λ s. owner s >>= λ of. Act of (rules.Drop name)) (standing_live old none state stands name (things.Object place) was))
-      go (Some (things.Request place request)) was is = cc
-      go (Some (things.Holding holding)) was is = cc
+      let ended = on_semaphore (without_request has.slot) c.before in
+      let like : IsLikeObject ended c.after = subst (λ stage. IsLikeObject (on_semaphore (cancelled stage) c.before) c.after) has.joined c.like in
+      acted old none state stands (calls.Drop name) (rules.Drop name) Done replies.Done new request.of c.before c.after (stands.tags request.of) it c.there
+      (ap (λ s. owner s >>= λ of. Act of (rules.Drop name)) (standing_as old none state stands name (things.Request request.of request) c.before it is))
+      (lands_like ended c.after like c.lawful it.named request.of (rules.Drop name) Done (stands.tags request.of) table'
+      (ends it.spot name request is table' updated (steady_before ended c.after like c.lawful)))
+      (touched_one request.of table table' name None updated (subst (IsOf request.of) (sym is) refl) tt) c.set last refl
 
   pub drops_nothing : (name : List ℕ) → table name ≡ None → ((n : List ℕ) → table' n ≡ table n) → new.objects.items ≡ kept → FollowsFrom (calls.Drop name) (replies.Refused refusals.Unknown) new state
   drops_nothing name free names items =
@@ -323,7 +330,8 @@ module _ (old : Table) (none : wakes_left old ≡ []) (state : State) (stands : 
 
     does : (call : Call) (rule : Rule (List ℕ)) (answer : Answer) (object' : ObjectState) (line' : Line Tag) → plan call state ≡ Act target_there.named rule
         → act bytes_eq rule object_of_it ≡ turn answer (record object_of_it { line = line' }) → AreAlike (rename (stands.tags place) object'.line) line'
-        → object'.kind ≡ object.kind → object'.number ≡ object.number → object'.held ≡ object.held → IsSteady object' → requests line' ≡ requests object_of_it.line → requests object'.line ≡ requests object.line
+        → object'.kind ≡ object.kind → object'.number ≡ object.number → object'.held ≡ object.held → IsSteady object' → requests line' ≡ requests object_of_it.line
+        → requests object'.line ≡ requests object.line
         → new.objects.items ≡ slice_set kept place object' → new.last ≡ place → FollowsFrom call (reply_of answer) new state
     does call rule answer object' line' planned turns is kind number held steady same_asked same_kept items last =
         acted old none state stands call rule answer (reply_of answer) new place object object' (stands.tags place) target_there there planned
@@ -334,14 +342,14 @@ module _ (old : Table) (none : wakes_left old ≡ []) (state : State) (stands : 
       for_permits : object_for Permit (standing of state) ≡ Ok target_there.named
       for_permits = object_there old none state stands Permit of place target_there.named is target_there.there
 
-      overflows_too : (n : ℕ) → would_overflow n object_of_it ≡ overflows n object.line object.held
+      overflows_too : (n : ℕ) → overflows n object_of_it.line (total object_of_it.held) ≡ overflows n object.line object.held
       overflows_too n =
           ap₂ (λ (l : Line Tag) held. overflows n l held) same_line target_there.spot.at.held
           ∙ ap (λ granted. int_lt (pos u64_max) (object.line.free +ℤ pos (granted + object.held + n))) granted_same
 
       plan_release : (n : ℕ) → plan (calls.Release of n) state ≡ (refuse_if (overflows n object.line object.held) refusals.Overflow >>= λ found. Act target_there.named (rules.Release n))
       plan_release n =
-          ap (λ one. one >>= λ named. refuse_if (would_overflow n named.object) refusals.Overflow >>= λ found. Act named (rules.Release n)) for_permits
+          ap (λ one. one >>= λ named. refuse_if (overflows n named.object.line (total named.object.held)) refusals.Overflow >>= λ found. Act named (rules.Release n)) for_permits
           ∙ ap (λ b. refuse_if b refusals.Overflow >>= λ found. Act target_there.named (rules.Release n)) (overflows_too n)
 
       pub releases : (n : ℕ) (object' : ObjectState) → overflows n object.line object.held ≡ false → IsLikeObject (on_semaphore (released n) object) object' → IsSteady object'
@@ -362,7 +370,7 @@ module _ (old : Table) (none : wakes_left old ≡ []) (state : State) (stands : 
 
       plan_reduce : (n : ℕ) → plan (calls.Reduce of n) state ≡ (refuse_if (owes_too_much n object.line) refusals.Debt >>= λ found. Act target_there.named (rules.Reduce n))
       plan_reduce n =
-          ap (λ one. one >>= λ named. refuse_if (would_owe_too_much n named.object) refusals.Debt >>= λ found. Act named (rules.Reduce n)) for_permits
+          ap (λ one. one >>= λ named. refuse_if (owes_too_much n named.object.line) refusals.Debt >>= λ found. Act named (rules.Reduce n)) for_permits
           ∙ ap (λ (l : Line Tag). refuse_if (owes_too_much n l) refusals.Debt >>= λ found. Act target_there.named (rules.Reduce n)) same_line
 
       may_reduce : (n : ℕ) → owes_too_much n object.line ≡ false → plan (calls.Reduce of n) state ≡ Act target_there.named (rules.Reduce n)
@@ -372,7 +380,8 @@ module _ (old : Table) (none : wakes_left old ≡ []) (state : State) (stands : 
           → new.objects.items ≡ slice_set kept place object' → new.last ≡ place → FollowsFrom (calls.Reduce of n) replies.Done new state
       reduces n object' fits object_is steady items last =
           does (calls.Reduce of n) (rules.Reduce n) Done (on_semaphore (reduced n) object) (take_permits n object_of_it.line) (may_reduce n fits) refl
-          (take_permits-alike n (rename (stands.tags place) object.line) object_of_it.line alike) refl refl refl (subst (λ (o : ObjectState). IsSteady o) object_is steady) refl refl (items ∙ ap (slice_set kept place) object_is) last
+          (take_permits-alike n (rename (stands.tags place) object.line) object_of_it.line alike) refl refl refl (subst (λ (o : ObjectState). IsSteady o) object_is steady) refl refl
+          (items ∙ ap (slice_set kept place) object_is) last
 
       pub debt_refused : (n : ℕ) → owes_too_much n object.line ≡ true → new.objects.items ≡ kept → FollowsFrom (calls.Reduce of n) (replies.Refused refusals.Debt) new state
       debt_refused n over items =
@@ -389,21 +398,25 @@ module _ (old : Table) (none : wakes_left old ≡ []) (state : State) (stands : 
           does (calls.Drain of n) (rules.Drain n) (Drained count) (on_semaphore (reduced count) object) (take_permits count object_of_it.line)
           (ap (λ one. one >>= λ named. Act named (rules.Drain n)) for_permits)
           (ap (λ m. turn (Drained m) (record object_of_it { line = take_permits m object_of_it.line })) drained_too)
-          (take_permits-alike count (rename (stands.tags place) object.line) object_of_it.line alike) refl refl refl (subst (λ (o : ObjectState). IsSteady o) object_is steady) refl refl (items ∙ ap (slice_set kept place) object_is) last
+          (take_permits-alike count (rename (stands.tags place) object.line) object_of_it.line alike) refl refl refl (subst (λ (o : ObjectState). IsSteady o) object_is steady) refl refl
+          (items ∙ ap (slice_set kept place) object_is) last
 
     pub figures : object_place (table of) ≡ Ok place → new.objects.items ≡ kept
         → FollowsFrom (calls.Status of) (replies.Figures (available object.line) object.line.free (length object.line.waiting) (total object.line.granted) object.held) new state
     figures is items =
-        shows old none state stands new names items (calls.Status of) rules.Status (Figures (available object.line) object.line.free (length object.line.waiting) (total object.line.granted) object.held)
+        shows old none state stands new names items (calls.Status of) rules.Status
+        (Figures (available object.line) object.line.free (length object.line.waiting) (total object.line.granted) object.held)
         place object target_there
         (ap (λ s. object_of s >>= λ it. Act it rules.Status) (standing_as old none state stands of (things.Object place) object target_there (object_from (table of) place is)))
         (ap₂ (λ (l : Line Tag) held. turn (Figures (available l) l.free (length l.waiting) (total l.granted) held) object_of_it) same_line target_there.spot.at.held
         ∙ ap₂ (λ a granted. turn (Figures a object.line.free (length (map (renamed_waiting (stands.tags place)) object.line.waiting)) granted object.held) object_of_it)
         (available-rename (stands.tags place) object.line) granted_same
-        ∙ ap (λ w. turn (Figures (available object.line) object.line.free w (total object.line.granted) object.held) object_of_it) (length-map object.line.waiting (renamed_waiting (stands.tags place))))
+        ∙ ap (λ w. turn (Figures (available object.line) object.line.free w (total object.line.granted) object.held) object_of_it)
+        (length-map object.line.waiting (renamed_waiting (stands.tags place))))
 
     -- what is tried for isn't there
-    pub tried_nothing : (want : Want) (made : List ℕ) (is : offering (mode_of want) kept (object_place (table of)) ≡ Ok place) (free : table made ≡ None) → is_served (size_for want object.kind) object.line ≡ false
+    pub tried_nothing : (want : Want) (made : List ℕ) (is : offering (mode_of want) kept (object_place (table of)) ≡ Ok place) (free : table made ≡ None)
+        → is_served (size_for want object.kind) object.line ≡ false
         → new.objects.items ≡ kept → FollowsFrom (try_call want made of) replies.Nothing new state
     tried_nothing want made is free waits items =
         shows old none state stands new names items (try_call want made of) (rules.Try (tag (mode_of want) made) (size_for want object.kind)) Nothing place object target_there
@@ -466,9 +479,11 @@ module _ (old : Table) (none : wakes_left old ≡ []) (state : State) (stands : 
     splits_off enough split items =
         let was = thing_is Permit name whole is object there in
         let one : split.whole ≡ whole = same_holding Permit (table name) split.whole whole split.was is in
-        let parted : Updated table split.mid name (Some (things.Holding (record whole { count = whole.count - n }))) = subst (λ (h : HoldingState). Updated table split.mid name (Some (things.Holding (record h { count = h.count - n })))) one split.parted in
+        let parted : Updated table split.mid name (Some (things.Holding (record whole { count = whole.count - n }))) =
+        subst (λ (h : HoldingState). Updated table split.mid name (Some (things.Holding (record h { count = h.count - n })))) one split.parted in
         let added : Updated split.mid table' made (Some (things.Holding (record { mode = Permit; of = whole.of; count = n }))) =
-        subst (λ (h : HoldingState). Updated split.mid table' made (Some (things.Holding h))) (ap (λ (h : HoldingState). record h { count = n }) one ∙ ap (λ m. record { mode = m; of = whole.of; count = n }) (mode_is Permit name whole is object there)) split.added in
+        subst (λ (h : HoldingState). Updated split.mid table' made (Some (things.Holding h)))
+        (ap (λ (h : HoldingState). record h { count = n }) one ∙ ap (λ m. record { mode = m; of = whole.of; count = n }) (mode_is Permit name whole is object there)) split.added in
         acted old none state stands (calls.Split name made n) (rules.Split name made n) Done replies.Done new whole.of object object (stands.tags whole.of) splitter there plan_split
         (splits splitter.spot name made whole refl (mode_is Permit name whole is object there) was free n split_apart enough split.mid table' splitter.spot.at.steady parted added)
         (λ other. touched_twice (touched_one whole.of table split.mid name (Some (things.Holding (record whole { count = whole.count - n }))) parted (subst (IsOf whole.of) (sym was) refl) refl other)
@@ -479,32 +494,33 @@ module _ (old : Table) (none : wakes_left old ≡ []) (state : State) (stands : 
     pub splits_none : whole.count < n → ((m : List ℕ) → table' m ≡ table m) → new.objects.items ≡ kept → FollowsFrom (calls.Split name made n) replies.Nothing new state
     splits_none beyond names items =
         shows old none state stands new names items (calls.Split name made n) (rules.Split name made n) Nothing whole.of object splitter plan_split
-        (ap (λ o. split_of o (is_tag bytes_eq name) (tag Permit made) n splitter.named.object) (held_there splitter.spot name whole refl (thing_is Permit name whole is object there)) ∙ cond-false _ _ _ (lt-leb n whole.count beyond))
+        (ap (λ o. split_by (size_in o) (is_tag bytes_eq name) (tag Permit made) n splitter.named.object) (held_there splitter.spot name whole refl (thing_is Permit name whole is object there))
+        ∙ cond-false _ _ _ (lt-leb n whole.count beyond))
 
     pub works_split : n ≤ whole.count → DidWork (step (calls.Split name made n) state).reply
     works_split enough =
         works old none state stands (calls.Split name made n) (rules.Split name made n) splitter.named plan_split
         (subst (λ (t : Turn Tag). DidWork (reply_of t.answer))
-        (sym (ap (λ o. split_of o (is_tag bytes_eq name) (tag Permit made) n splitter.named.object) (held_there splitter.spot name whole refl (thing_is Permit name whole is object there)) ∙ cond-true _ _ _ (le-leb n whole.count enough))) tt)
+        (sym (ap (λ o. split_by (size_in o) (is_tag bytes_eq name) (tag Permit made) n splitter.named.object) (held_there splitter.spot name whole refl (thing_is Permit name whole is object there))
+        ∙ cond-true _ _ _ (le-leb n whole.count enough))) tt)
 
   -- What is held for writing is held for reading.
-  pub downgrades : (name : List ℕ) → Downgrades name table table' kept new.objects.items new.last → FollowsFrom (calls.Downgrade name) replies.Done new state
-  downgrades name d =
-      let writer = d.writer in
-      let object = d.becomes.before in
-      let there = d.becomes.there in
-      let it = target old none state stands writer.of object there in
-      let was = thing_is Write name writer d.was object there in
-      let known : FitsHolding (Some object) writer = subst (λ o. FitsHolding o writer) there (fits_at stands.tags table kept state stands.under name (things.Holding writer) was) in
-      let fits : Fits object.kind Write writer.count = subst (λ m. Fits object.kind m writer.count) (mode_is Write name writer d.was object there) known.2 in
+  pub downgrades : (name : List ℕ) (writer : HoldingState) → held_as Write (table name) ≡ Ok writer → 0 < writer.count → Changes writer.of kept new.objects.items (downgraded writer.count)
+      → Updated table table' name (Some (things.Holding (record { mode = Read; of = writer.of; count = 1 }))) → new.last ≡ writer.of → FollowsFrom (calls.Downgrade name) replies.Done new state
+  downgrades name writer is some c updated last =
+      let object = c.before in
+      let it = target old none state stands writer.of object c.there in
+      let was = thing_is Write name writer is object c.there in
+      let known : FitsHolding (Some object) writer = subst (λ o. FitsHolding o writer) c.there (fits_at stands.tags table kept state stands.under name (things.Holding writer) was) in
+      let fits : Fits object.kind Write writer.count = subst (λ m. Fits object.kind m writer.count) (mode_is Write name writer is object c.there) known.2 in
       let lock = write_of object.kind fits.0 in
-      acted old none state stands (calls.Downgrade name) (rules.Downgrade name) Done replies.Done new writer.of object d.becomes.after (stands.tags writer.of) it there
-      (ap (λ one. one >>= λ of. Act of (rules.Downgrade name)) (lends Write name writer d.was object there))
-      (lands_like (downgraded writer.count object) d.becomes.after d.becomes.like d.becomes.lawful it.named writer.of (rules.Downgrade name) Done (stands.tags writer.of) table'
-      (lowers it.spot name writer refl was lock.0 (it.spot.at.kind ∙ lock.1) (fits.1 ∙ ap (λ k. size_of k Write) lock.1) d.some table'
-      (steady_before (downgraded writer.count object) d.becomes.after d.becomes.like d.becomes.lawful) d.updated))
-      (touched_one writer.of table table' name (Some (things.Holding (record { mode = Read; of = writer.of; count = 1 }))) d.updated (subst (IsOf writer.of) (sym was) refl) refl)
-      d.becomes.set d.at refl
+      acted old none state stands (calls.Downgrade name) (rules.Downgrade name) Done replies.Done new writer.of object c.after (stands.tags writer.of) it c.there
+      (ap (λ one. one >>= λ of. Act of (rules.Downgrade name)) (lends Write name writer is object c.there))
+      (lands_like (downgraded writer.count object) c.after c.like c.lawful it.named writer.of (rules.Downgrade name) Done (stands.tags writer.of) table'
+      (lowers it.spot name writer refl was lock.0 (it.spot.at.kind ∙ lock.1) (fits.1 ∙ ap (λ k. size_of k Write) lock.1) some table'
+      (steady_before (downgraded writer.count object) c.after c.like c.lawful) updated))
+      (touched_one writer.of table table' name (Some (things.Holding (record { mode = Read; of = writer.of; count = 1 }))) updated (subst (IsOf writer.of) (sym was) refl) refl)
+      c.set last refl
 
   -- Two permits.
   module _ (first_name second_name : List ℕ) where
@@ -535,7 +551,8 @@ module _ (old : Table) (none : wakes_left old ≡ []) (state : State) (stands : 
         by_name true places is = refl
         by_name false true is = λ named there.
             let one_object : a ≡ b = same_Some a b (sym one ∙ ap (slice_get state) (eqb-true first.of second.of is) ∙ other) in
-            ap (after false) (ap (λ (n : Named). bytes_eq a.name n.name) (sym one_object) ∙ bytes_told.itself a.name) ∙ ap (λ n. Act n (rules.Merge first_name second_name)) (same_Some a named (sym one ∙ there))
+            ap (after false) (ap (λ (n : Named). bytes_eq a.name n.name) (sym one_object) ∙ bytes_told.itself a.name)
+            ∙ ap (λ n. Act n (rules.Merge first_name second_name)) (same_Some a named (sym one ∙ there))
         by_name false false is = ap (after false) (apart_by_place old none state stands first.of second.of a b one other (λ k. true≢false (sym (eq-eqb first.of second.of k) ∙ is)))
 
     merge_as : MergeAs (mergeable first_name second_name (table first_name) (table second_name)) (plan (calls.Merge first_name second_name) state)
@@ -562,7 +579,7 @@ module _ (old : Table) (none : wakes_left old ≡ []) (state : State) (stands : 
         refused old none state stands new names items (calls.Merge first_name second_name) refusal (subst (λ r. MergeAs r (plan (calls.Merge first_name second_name) state)) is merge_as)
 
     pub merges_two : (place : ℕ) (is : mergeable first_name second_name (table first_name) (table second_name) ≡ Ok place) (more : HoldingState) → held_as Permit (table second_name) ≡ Ok more
-        → (mid : List ℕ → Option Thing) → Updated table mid second_name None → Grows first_name mid table' more → new.objects.items ≡ kept → new.last ≡ place
+        → (mid : List ℕ → Option Thing) → Updated table mid second_name None → Grows first_name mid table' (tokens.Holding more) → new.objects.items ≡ kept → new.last ≡ place
         → FollowsFrom (calls.Merge first_name second_name) replies.Done new state
     merges_two place is more spent mid ended grown items last =
         let two = can_merge first_name second_name (table first_name) (table second_name) place is in
@@ -571,11 +588,13 @@ module _ (old : Table) (none : wakes_left old ≡ []) (state : State) (stands : 
         let spent_is = (held_from Permit (table second_name) more spent).0 in
         let here : more.of ≡ first.of = ap (λ (h : HoldingState). h.of) (same_holding Permit (table second_name) more two.second spent two.second_is) ∙ sym two.one in
         let whole : grown.whole ≡ first =
-        same_holding Permit (table first_name) grown.whole first (ap (held_as Permit) (sym (ended.others first_name (other_way bytes_eq bytes_told first_name second_name two.apart))) ∙ grown.was) two.first_is in
+        same_holding Permit (table first_name) grown.whole first (ap (held_as Permit) (sym (ended.others first_name (other_way bytes_eq bytes_told first_name second_name two.apart)))
+        ∙ grown.was) two.first_is in
         let object = live old none state stands first_name (things.Holding first) was in
         let grew : Updated mid table' first_name (Some (things.Holding (record { mode = first.mode; of = first.of; count = first.count + more.count }))) =
         subst (λ (h : HoldingState). Updated mid table' first_name (Some (things.Holding (record h { count = h.count + more.count })))) whole grown.updated in
-        acted old none state stands (calls.Merge first_name second_name) (rules.Merge first_name second_name) Done replies.Done new first.of object.object object.object (stands.tags first.of) object.it object.kept_there
+        acted old none state stands (calls.Merge first_name second_name) (rules.Merge first_name second_name) Done replies.Done new first.of object.object object.object
+        (stands.tags first.of) object.it object.kept_there
         (subst (λ r. MergeAs r (plan (calls.Merge first_name second_name) state)) (is ∙ ap (λ p. Ok p) two.at) merge_as object.it.named object.it.there)
         (merges object.it.spot first_name second_name first more refl here was spent_is two.apart mid table' object.it.spot.at.steady ended grew)
         (λ n. touched_twice (touched_one first.of table mid second_name None ended (subst (IsOf first.of) (sym spent_is) here) tt n)

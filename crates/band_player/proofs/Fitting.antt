@@ -9,7 +9,7 @@ use Rattle.std.proofs.lemmas.Option.{slice_get_within, slice_get_read}
 use Rattle.band_balance.specs.Line.{requests, u64_max, entry_named, without}
 use Rattle.band_balance.specs.Object.{Kind, Mode, Permit, Lock, Read, Write, tag}
 use Rattle.band_balance.specs.Rule.{Fits}
-use Rattle.band_balance.specs.Rule.{is as is_tag}
+use Rattle.band_balance.specs.Rule.{has_name as is_tag}
 use Rattle.band_balance.proofs.Held.{names_apart, other_way}
 use Rattle.band_balance.proofs.Requests.{all-found, entry_named-without_other}
 use Rattle.band_balance.proofs.Rules.{bytes_told}
@@ -25,6 +25,7 @@ use Rattle.band_player.specs.Objects.{ObjectState, RequestState, HoldingState}
 use Rattle.band_player.specs.Table.{shown, HasSlotAt, StandsAt, StandsUnder}
 use Rattle.band_player.specs.Thing.{Thing, place_at}
 use Rattle.band_player.specs.Thing as things
+use Rattle.band_player.specs.Token as tokens
 use Rattle.band_player.specs.declared.table.Table.{Table}
 use Rattle.band_player.proofs.Lists.{also_at, all_at_place, some_at}
 use Rattle.band_player.proofs.Named.{can_merge, held_from, offered, same_holding}
@@ -95,7 +96,8 @@ fits_in table name thing sound is =
 
 -- two permits of one object are no more than it has lent
 module _ (tags : ℕ → ℕ → Tag) (table : List ℕ → Option Thing) (kept : List ObjectState) (state : State) (stands : StandsUnder tags table kept state) where
-  both_fit : (name other : List ℕ) (first second : HoldingState) → table name ≡ Some (things.Holding first) → table other ≡ Some (things.Holding second) → first.of ≡ second.of → bytes_eq name other ≡ false
+  both_fit : (name other : List ℕ) (first second : HoldingState) → table name ≡ Some (things.Holding first) → table other ≡ Some (things.Holding second) → first.of ≡ second.of
+      → bytes_eq name other ≡ false
       → first.count + second.count ≤ u64_max
   both_fit name other first second is also one apart =
       let object = some_at kept first.of (stands.there name (things.Holding first) is) in
@@ -113,7 +115,7 @@ module _ (tags : ℕ → ℕ → Tag) (table : List ℕ → Option Thing) (kept 
       omega (arith, at.held)
 
 pub can_grow : (table : Table) → IsSound table → (kept spent : List ℕ) (place : ℕ) → mergeable kept spent (thing_at table.names kept) (thing_at table.names spent) ≡ Ok place → (more : HoldingState)
-    → held_as Permit (thing_at table.names spent) ≡ Ok more → (mid : List ℕ → Option Thing) → Updated (thing_at table.names) mid spent None → CanGrow (mid kept) more
+    → held_as Permit (thing_at table.names spent) ≡ Ok more → (mid : List ℕ → Option Thing) → Updated (thing_at table.names) mid spent None → CanGrow (mid kept) (tokens.Holding more)
 can_grow table sound kept spent place is more spent_is mid ended =
     let two = can_merge kept spent (thing_at table.names kept) (thing_at table.names spent) place is in
     let second : two.second ≡ more = same_holding Permit (thing_at table.names spent) two.second more two.second_is spent_is in
@@ -133,7 +135,8 @@ pub numbered_in : (table : Table) (place : ℕ) → IsSound table → IsNumbered
 numbered_in table place sound = ∥∥₁_elim sound (hlevel props) (λ it. numbered it.1.tags (thing_at table.names) table.objects.items it.0 it.1.under place)
 
 -- the object that was asked of by name, and read at its place
-pub object_within : (table : Table) → IsSound table → (mode : Mode) (of : List ℕ) (place : ℕ) → offering mode table.objects.items (object_place (thing_at table.names of)) ≡ Ok place → place < length table.objects.items
+pub object_within : (table : Table) → IsSound table → (mode : Mode) (of : List ℕ) (place : ℕ) → offering mode table.objects.items (object_place (thing_at table.names of)) ≡ Ok place
+    → place < length table.objects.items
 object_within table sound mode of place is = fits_in table of (things.Object place) sound (offered mode table.objects.items (thing_at table.names of) place is).0
 
 pub object_read : (table : Table) → IsSound table → (mode : Mode) (of : List ℕ) (place : ℕ) → offering mode table.objects.items (object_place (thing_at table.names of)) ≡ Ok place

@@ -36,7 +36,8 @@ pub sound_still : (old new : Table) → IsSound old → Stays old new → IsSoun
 sound_still old new sound stays = ∥∥₁_map sound (λ it. (it.0, stays it.0 it.1))
 
 -- no waker is left in a table
-pub none_woken : (last : ℕ) (kept : List ObjectState) → OthersQuiet last kept → wakes_of (slice_get kept last) ≡ [] → (place : ℕ) (object : ObjectState) → slice_get kept place ≡ Some object → object.line.wakes ≡ []
+pub none_woken : (last : ℕ) (kept : List ObjectState) → OthersQuiet last kept → wakes_of (slice_get kept last) ≡ [] → (place : ℕ) (object : ObjectState) → slice_get kept place ≡ Some object
+    → object.line.wakes ≡ []
 none_woken last kept others none place object there =
     by_bool (place == last)
     (λ h. ap wakes_of (sym there ∙ ap (slice_get kept) (eqb-true place last h)) ∙ none)
@@ -74,7 +75,8 @@ module _ (old : Table) (none : wakes_left old ≡ []) (state : State) (stands : 
   pub absent : (name : List ℕ) → table name ≡ None → standing name state ≡ Absent
   absent = absent_there stands.tags table kept state stands.under
 
-  pub standing_as : (name : List ℕ) (thing : Thing) (object : ObjectState) (it : Target (place_at thing) object) → table name ≡ Some thing → standing name state ≡ stands_as it.named (shown_of name thing) Absent
+  pub standing_as : (name : List ℕ) (thing : Thing) (object : ObjectState) (it : Target (place_at thing) object) → table name ≡ Some thing
+      → standing name state ≡ stands_as it.named (shown_of name thing) Absent
   standing_as name thing object it is = standing_there stands.tags table kept state stands.under name thing it.named is it.there
 
   -- Nothing changes, whichever object was called last.
@@ -89,7 +91,8 @@ module _ (old : Table) (none : wakes_left old ≡ []) (state : State) (stands : 
     pub same_stands : StandsFor new state
     same_stands = record {
       tags = stands.tags;
-      under = subst (λ (objects : List ObjectState). StandsUnder stands.tags (thing_at new.names) objects state) (sym items) (stands_same stands.tags table (thing_at new.names) kept state names stands.under);
+      under = subst (λ (objects : List ObjectState). StandsUnder stands.tags (thing_at new.names) objects state) (sym items)
+          (stands_same stands.tags table (thing_at new.names) kept state names stands.under);
       others = λ place object apart there. quiet place object (ap (λ (objects : List ObjectState). slice_get objects place) (sym items) ∙ there);
     }
 
@@ -110,7 +113,11 @@ module _ (old : Table) (none : wakes_left old ≡ []) (state : State) (stands : 
         let effect : step call state ≡ record { reply = reply_of answer; woken = []; state = state } =
         ap (λ p. perform p state) planned
         ∙ ap (λ t. record { reply = reply_of t.answer; woken = t.woken; state = with_object it.named.name t.object state }) turns
-        ∙ ap₂ (λ woken wakes. record { reply = reply_of answer; woken = woken; state = with_object it.named.name (record it.named.object { line = record it.named.object.line { wakes = wakes } }) state }) quiet_line (sym quiet_line)
+        ∙ ap₂ (λ woken wakes. record {
+          reply = reply_of answer;
+          woken = woken;
+          state = with_object it.named.name (record it.named.object { line = record it.named.object.line { wakes = wakes } }) state;
+        }) quiet_line (sym quiet_line)
         ∙ ap (λ (s : State). record { reply = reply_of answer; woken = []; state = s })
         (with_object_at state stands.under.order.differ place it.named it.named.object it.there ∙ set_itself state place it.named it.there) in
         record {

@@ -6,17 +6,22 @@ use Rattle.std.specs.Str.{bytes_eq}
 use Rattle.std.proofs.lemmas.Bool.{cond-true, cond-false, false≢true, le-leb}
 use Rattle.std.proofs.lemmas.List.Sorted.{IsPermutation-sym}
 use Rattle.std.proofs.lemmas.Option.{none-some}
-use Rattle.band_balance.specs.Line.{Entry, Line, AreAlike, entry_of, requests, total, rename, renamed, entry_named, without, is_served, take_permits, give_back, join, poll_granted, poll_waiting, cancel}
-use Rattle.band_balance.specs.Object.{Kind, Semaphore, Mutex, ReaderWriter, Mode, Permit, Read, Answer, Done, Ready, Pending, tag, turn, hold, change, poll_of, drop_of, split_of, merge_of, downgrade_of}
+use Rattle.band_balance.specs.Line.{Entry, Line, AreAlike, entry_of, requests, total, rename, renamed, entry_named, without, is_served, take_permits, give_back, join, poll_granted, poll_waiting}
+use Rattle.band_balance.specs.Line.{cancel}
+use Rattle.band_balance.specs.Object.{Kind, Semaphore, Mutex, ReaderWriter, Mode, Permit, Read, Write, Answer, Done, Ready, Pending, tag, size_of}
+use Rattle.band_balance.specs.Object.{turn, hold, change, size_in}
+use Rattle.band_balance.proofs.Turns.{poll_of, drop_of, split_by, merge_by}
 use Rattle.band_balance.specs.Rule.{Rule, act}
-use Rattle.band_balance.specs.Rule.{is as is_tag}
+use Rattle.band_balance.specs.Rule.{has_name as is_tag}
 use Rattle.band_balance.specs.Rule as rules
-use Rattle.band_balance.proofs.Alike.{alike_is, alike_back, alike_then, with_granted, requests-alike, take_permits-alike, give_back-alike, join-alike, granted-alike, poll_granted-alike, poll_waiting-alike, cancel-alike, rename-alike, named_once, pairwise-order, pairwise_front}
+use Rattle.band_balance.proofs.Alike.{alike_is, alike_back, alike_then, with_granted, requests-alike, take_permits-alike, give_back-alike, join-alike, granted-alike, poll_granted-alike}
+use Rattle.band_balance.proofs.Alike.{poll_waiting-alike, cancel-alike, rename-alike, named_once, pairwise-order, pairwise_front}
 use Rattle.band_balance.proofs.Distinct.{named_at, named_at_itself, named_at_other, rename-join_named_at, stays-cancel, stays-poll_granted}
 use Rattle.band_balance.proofs.Held.{by_bool, other_way, names_apart, total-push, total-change, found-change, all-change, other-change}
 use Rattle.band_balance.proofs.Orderly.{pairwise-push, pairwise-without}
 use Rattle.band_balance.proofs.Rename.{all_of_first, all_of_second, give_back-rename, poll_granted-rename, poll_waiting-rename, cancel-rename_requests, entry_named-rename, requests-rename}
-use Rattle.band_balance.proofs.Requests.{count_named, all-weaker, all-without, all-not_named, requests-give_back, requests-poll_waiting, requests-poll_granted, requests-cancel, entry_named-push_other, entry_named-push_itself, entry_named-without_other, entry_named-poll_granted_other, entry_named-cancel_other, entry_named-join_other, entry_named-join_itself}
+use Rattle.band_balance.proofs.Requests.{count_named, all-weaker, all-without, all-not_named, requests-give_back, requests-poll_waiting, requests-poll_granted, requests-cancel, entry_named-push_other}
+use Rattle.band_balance.proofs.Requests.{entry_named-push_itself, entry_named-without_other, entry_named-poll_granted_other, entry_named-cancel_other, entry_named-join_other, entry_named-join_itself}
 use Rattle.band_balance.proofs.Rules.{bytes_told}
 use Rattle.band_balance.proofs.Settle.{total-without}
 use Rattle.band_rules.specs.State.{Named, Tag}
@@ -87,7 +92,8 @@ module _ (tags tags' : ℕ → Tag) (place : ℕ) (line line' : Line ℕ) (name 
   slot_kept named stays = record { slot = has.slot; joined = has.joined; of = has.of; own = stays ∙ has.own; tagged = named ∙ has.tagged }
 
 -- each slot stays where each is found that was
-pub slots_kept : (tags : ℕ → Tag) (place : ℕ) (line line' : Line ℕ) → ((slot : ℕ) → entry_named (is_slot slot) (requests line') ≡ entry_named (is_slot slot) (requests line)) → (name : List ℕ) (thing : Option Thing)
+pub slots_kept : (tags : ℕ → Tag) (place : ℕ) (line line' : Line ℕ) → ((slot : ℕ) → entry_named (is_slot slot) (requests line') ≡ entry_named (is_slot slot) (requests line))
+    → (name : List ℕ) (thing : Option Thing)
     → HasSlotAt tags place line name thing → HasSlotAt tags place line' name thing
 slots_kept tags place line line' is name None has = tt
 slots_kept tags place line line' is name (Some (things.Object other)) has = tt
@@ -211,7 +217,8 @@ module _ {tags : ℕ → Tag} {table : List ℕ → Option Thing} {place : ℕ} 
 
   -- It joins the line under a new slot.
   module _ (made : Tag) (size waker slot : ℕ) (table' : List ℕ → Option Thing) (free : table made.name ≡ None) (unused : entry_named (is_slot slot) (requests object.line) ≡ None)
-      (updated : Updated table table' made.name (Some (things.Request place (record { mode = made.mode; of = place; size = size; stage = Joined slot })))) (steady : IsSteady (on_semaphore (joined slot size waker) object)) where
+      (updated : Updated table table' made.name (Some (things.Request place (record { mode = made.mode; of = place; size = size; stage = Joined slot }))))
+      (steady : IsSteady (on_semaphore (joined slot size waker) object)) where
     abbrev pub joining : ℕ → Tag
     joining = named_at slot made tags
 
@@ -253,7 +260,8 @@ module _ {tags : ℕ → Tag} {table : List ℕ → Option Thing} {place : ℕ} 
         (λ name.
         seen_as (seen name (with_this line' held)) (seen name named) refl (ap (entry_named (is_tag bytes_eq name)) same_line) refl
         ∙ spot.at.every name ∙ ap (shown place name) (sym (same_table name)))
-        (λ name. subst (HasSlotAt tags place object'.line name) (sym (same_table name)) (slots_kept tags place object.line object'.line (λ slot. ap (entry_named (is_slot slot)) same_kept) name (table name) (spot.at.slots name)))
+        (λ name. subst (HasSlotAt tags place object'.line name) (sym (same_table name))
+        (slots_kept tags place object.line object'.line (λ slot. ap (entry_named (is_slot slot)) same_kept) name (table name) (spot.at.slots name)))
 
   -- A request of the table.
   module _ (name : List ℕ) (request : RequestState) (is : table name ≡ Some (things.Request place request)) where
@@ -291,7 +299,8 @@ module _ {tags : ℕ → Tag} {table : List ℕ → Option Thing} {place : ℕ} 
 
     -- who is granted under the name
     granted_as : entry_named (is_tag bytes_eq name) line.granted ≡ option_map (renamed tags) (entry_named (is_slot own_slot) object.line.granted)
-    granted_as = granted-alike (is_tag bytes_eq name) (rename tags object.line) line line_is granted_once ∙ entry_named-rename tags (is_slot own_slot) (is_tag bytes_eq name) object.line.granted granted_agree
+    granted_as = granted-alike (is_tag bytes_eq name) (rename tags object.line) line line_is granted_once
+        ∙ entry_named-rename tags (is_slot own_slot) (is_tag bytes_eq name) object.line.granted granted_agree
 
     -- another name has another slot
     another : (other : List ℕ) (wants : RequestState) → bytes_eq name other ≡ false → (has : HasSlot tags place object.line other wants) → has.slot ≡ own_slot → ⊥
@@ -327,9 +336,11 @@ module _ {tags : ℕ → Tag} {table : List ℕ → Option Thing} {place : ℕ} 
           ∙ sym (shown_here place name (things.Holding (record { mode = request.mode; of = place; count = request.size })) refl)))
           (slots_one place table table' name _ updated tags tags object.line (poll_granted (is_slot own_slot) object.line) spot.at.slots
           (λ other wants apart has.
-          slot_kept tags tags place object.line (poll_granted (is_slot own_slot) object.line) other wants has refl (stays-poll_granted own_slot has.slot object.line (another other wants apart has))) tt)
+          slot_kept tags tags place object.line (poll_granted (is_slot own_slot) object.line) other wants has refl
+          (stays-poll_granted own_slot has.slot object.line (another other wants apart has))) tt)
 
-      pub rewakes : (waker : ℕ) → entry_named (is_slot own_slot) object.line.granted ≡ None → Updated table table' name (Some (things.Request place request)) → IsSteady (on_semaphore (with_waker own_slot waker) object)
+      pub rewakes : (waker : ℕ) → entry_named (is_slot own_slot) object.line.granted ≡ None → Updated table table' name (Some (things.Request place request))
+          → IsSteady (on_semaphore (with_waker own_slot waker) object)
           → Lands named place (rules.Poll name waker) Pending tags table' (on_semaphore (with_waker own_slot waker) object)
       rewakes waker waits updated steady =
           stays table' (updated_same table table' name (Some (things.Request place request)) updated is)
@@ -340,7 +351,8 @@ module _ {tags : ℕ → Tag} {table : List ℕ → Option Thing} {place : ℕ} 
           (poll_waiting-alike (is_tag bytes_eq name) waker (rename tags object.line) line line_is))
           refl refl refl steady (requests-poll_waiting (is_tag bytes_eq name) waker line) (requests-poll_waiting (is_slot own_slot) waker object.line)
 
-      pub ends : Updated table table' name None → IsSteady (on_semaphore (without_request own_slot) object) → Lands named place (rules.Drop name) Done tags table' (on_semaphore (without_request own_slot) object)
+      pub ends : Updated table table' name None → IsSteady (on_semaphore (without_request own_slot) object)
+          → Lands named place (rules.Drop name) Done tags table' (on_semaphore (without_request own_slot) object)
       ends updated steady =
           lands (rules.Drop name) Done tags table' (on_semaphore (without_request own_slot) object) (cancel (is_tag bytes_eq name) line) held
           (ap (λ o. drop_of o (is_tag bytes_eq name) named.object) (ap (λ s. s.holding) asked))
@@ -372,7 +384,8 @@ module _ {tags : ℕ → Tag} {table : List ℕ → Option Thing} {place : ℕ} 
         → requests line' ≡ requests line → requests object'.line ≡ requests object.line → Updated table table' name None → Lands named place rule Done tags table' object'
     lets_go rule table' object' line' turns is_line kind number sum steady same_line same_kept updated =
         let whole = total-without (is_tag bytes_eq name) held entry_held held_there in
-        lands rule Done tags table' object' line' (without (is_tag bytes_eq name) held) turns is_line kind number (omega (arith, spot.at.held)) (pairwise-without _ (is_tag bytes_eq name) held spot.at.held_once) steady
+        lands rule Done tags table' object' line' (without (is_tag bytes_eq name) held) turns is_line kind number (omega (arith, spot.at.held))
+        (pairwise-without _ (is_tag bytes_eq name) held spot.at.held_once) steady
         (every_one place table table' name None updated named (with_this line' (without (is_tag bytes_eq name) held)) refl spot.at.every
         (λ other apart. ap (entry_named (is_tag bytes_eq other)) same_line)
         (λ other apart. entry_named-without_other (is_tag bytes_eq name) (is_tag bytes_eq other) held (names_apart bytes_eq bytes_told name other apart held))
@@ -417,7 +430,8 @@ module _ {tags : ℕ → Tag} {table : List ℕ → Option Thing} {place : ℕ} 
           slots_one place table table' name _ updated tags tags object.line line' spot.at.slots
           (λ other wants apart has. slot_kept tags tags place object.line line' other wants has refl (ap (entry_named (is_slot has.slot)) same_kept)) tt
 
-  unseen_there : (made : List ℕ) → table made ≡ None → (es : List (Entry Tag)) → entry_named (is_tag bytes_eq made) es ≡ entry_named (is_tag bytes_eq made) held → entry_named (is_tag bytes_eq made) es ≡ None
+  unseen_there : (made : List ℕ) → table made ≡ None → (es : List (Entry Tag)) → entry_named (is_tag bytes_eq made) es ≡ entry_named (is_tag bytes_eq made) held
+      → entry_named (is_tag bytes_eq made) es ≡ None
   unseen_there made free es is = is ∙ ap (λ s. s.holding) (was_unseen made free)
 
   -- Permits of a new name.
@@ -441,10 +455,11 @@ module _ {tags : ℕ → Tag} {table : List ℕ → Option Thing} {place : ℕ} 
     splits enough mid table' steady parted added =
         let same : (e : Entry Tag) → bytes_eq name e.name.name ≡ true → (less e).name.name ≡ e.name.name = λ e means. refl in
         let others : (e : Entry Tag) (other : List ℕ) → bytes_eq name other ≡ false → bytes_eq other e.name.name ≡ false → bytes_eq other (less e).name.name ≡ false = λ e other differs still. still in
-        let none : entry_named (is_tag bytes_eq made) left_held ≡ None = unseen_there made free left_held (changed_other name whole here is less same others whole.mode (whole.count - n) refl made apart) in
+        let none : entry_named (is_tag bytes_eq made) left_held ≡ None =
+        unseen_there made free left_held (changed_other name whole here is less same others whole.mode (whole.count - n) refl made apart) in
         let sum = changed_total name whole here is less same others whole.mode (whole.count - n) refl in
         lands (rules.Split name made n) Done tags table' object line (hold (tag Permit made) n left_held)
-        (ap (λ o. split_of o (is_tag bytes_eq name) (tag Permit made) n named.object) found_it ∙ cond-true _ _ _ (le-leb n whole.count enough)) line_is refl refl
+        (ap (λ o. split_by (size_in o) (is_tag bytes_eq name) (tag Permit made) n named.object) found_it ∙ cond-true _ _ _ (le-leb n whole.count enough)) line_is refl refl
         (total-push left_held part ∙ omega (arith, spot.at.held))
         (pairwise-push _ left_held part (changed_once name whole here is less same others whole.mode (whole.count - n) refl)
         (all-weaker _ (λ (e : Entry Tag). bytes_eq e.name.name made ≡ false) (λ e differs. other_way bytes_eq bytes_told made e.name.name differs) left_held
@@ -453,7 +468,8 @@ module _ {tags : ℕ → Tag} {table : List ℕ → Option Thing} {place : ℕ} 
         (every_one place mid table' made _ added (with_this line left_held) (with_this line (hold (tag Permit made) n left_held)) refl
         (every_changed name whole here is less same others whole.mode (whole.count - n) refl mid line refl parted) (λ other differs. refl)
         (λ other differs. entry_named-push_other (is_tag bytes_eq other) left_held part (other_way bytes_eq bytes_told made other differs))
-        (seen_as _ _ (ap (λ s. s.named) (was_unseen made free)) (ap (λ s. s.request) (was_unseen made free)) (entry_named-push_itself (is_tag bytes_eq made) left_held part (bytes_told.itself made) none)
+        (seen_as _ _ (ap (λ s. s.named) (was_unseen made free)) (ap (λ s. s.request) (was_unseen made free))
+        (entry_named-push_itself (is_tag bytes_eq made) left_held part (bytes_told.itself made) none)
         ∙ sym (shown_here place made (things.Holding (record { mode = Permit; of = place; count = n })) refl)))
         (slots_one place mid table' made _ added tags tags object.line object.line
         (slots_changed name whole here is less same others whole.mode (whole.count - n) refl mid object.line refl parted) (λ other wants differs has. has) tt)
@@ -471,7 +487,8 @@ module _ {tags : ℕ → Tag} {table : List ℕ → Option Thing} {place : ℕ} 
     rest_held = without (is_tag bytes_eq spent) grown
 
     pub merges : (mid table' : List ℕ → Option Thing) → IsSteady object → Updated table mid spent None
-        → Updated mid table' kept (Some (things.Holding (record { mode = first.mode; of = place; count = first.count + second.count }))) → Lands named place (rules.Merge kept spent) Done tags table' object
+        → Updated mid table' kept (Some (things.Holding (record { mode = first.mode; of = place; count = first.count + second.count })))
+        → Lands named place (rules.Merge kept spent) Done tags table' object
     merges mid table' steady ended grew =
         let same : (e : Entry Tag) → bytes_eq kept e.name.name ≡ true → (more e).name.name ≡ e.name.name = λ e means. refl in
         let others : (e : Entry Tag) (other : List ℕ) → bytes_eq kept other ≡ false → bytes_eq other e.name.name ≡ false → bytes_eq other (more e).name.name ≡ false = λ e other differs still. still in
@@ -482,17 +499,20 @@ module _ {tags : ℕ → Tag} {table : List ℕ → Option Thing} {place : ℕ} 
         let less = total-without (is_tag bytes_eq spent) grown (entry_held spent second second_here second_is) found_spent in
         let before = without (is_tag bytes_eq spent) held in
         lands (rules.Merge kept spent) Done tags table' object line rest_held
-        (ap₂ (λ o p. merge_of o p (is_tag bytes_eq kept) (is_tag bytes_eq spent) named.object) (held_there kept first first_here first_is) (held_there spent second second_here second_is))
+        (ap₂ (λ o p. merge_by (size_in o + size_in p) (is_tag bytes_eq kept) (is_tag bytes_eq spent) named.object) (held_there kept first first_here first_is)
+        (held_there spent second second_here second_is))
         line_is refl refl (omega (arith, spot.at.held)) (pairwise-without _ (is_tag bytes_eq spent) grown once_grown) steady
         (every_one place mid table' kept _ grew (with_this line before) (with_this line rest_held) refl
         (every_one place table mid spent None ended named (with_this line before) refl spot.at.every (λ other differs. refl)
         (λ other differs. entry_named-without_other (is_tag bytes_eq spent) (is_tag bytes_eq other) held (names_apart bytes_eq bytes_told spent other differs held))
-        (seen_as _ unseen (ap (λ s. s.named) (has_it spent second second_here second_is)) (ap (λ s. s.request) (has_it spent second second_here second_is)) (gone_without spent held spot.at.held_once)))
+        (seen_as _ unseen (ap (λ s. s.named) (has_it spent second second_here second_is)) (ap (λ s. s.request) (has_it spent second second_here second_is))
+        (gone_without spent held spot.at.held_once)))
         (λ other differs. refl)
         (λ other differs.
         by_bool (bytes_eq spent other)
         (λ h. let same_name = bytes_told.equal spent other h in
-        subst (λ m. entry_named (is_tag bytes_eq m) rest_held ≡ entry_named (is_tag bytes_eq m) before) same_name (gone_without spent grown once_grown ∙ sym (gone_without spent held spot.at.held_once)))
+        subst (λ m. entry_named (is_tag bytes_eq m) rest_held ≡ entry_named (is_tag bytes_eq m) before) same_name
+        (gone_without spent grown once_grown ∙ sym (gone_without spent held spot.at.held_once)))
         (λ h.
         entry_named-without_other (is_tag bytes_eq spent) (is_tag bytes_eq other) grown (names_apart bytes_eq bytes_told spent other h grown) ∙ unchanged other differs
         ∙ sym (entry_named-without_other (is_tag bytes_eq spent) (is_tag bytes_eq other) held (names_apart bytes_eq bytes_told spent other h held))))
@@ -504,8 +524,10 @@ module _ {tags : ℕ → Tag} {table : List ℕ → Option Thing} {place : ℕ} 
         (slots_one place table mid spent None ended tags tags object.line object.line spot.at.slots (λ other wants differs has. has) tt) (λ other wants differs has. has) tt)
 
   -- What is held for writing is held for reading.
-  module _ (name : List ℕ) (writer : HoldingState) (here : writer.of ≡ place) (is : table name ≡ Some (things.Holding writer)) (max : ℕ) (kind : named.object.kind ≡ ReaderWriter max) (all : writer.count ≡ max) where
-    pub lowers : 0 < writer.count → (table' : List ℕ → Option Thing) → IsSteady (downgraded writer.count object) → Updated table table' name (Some (things.Holding (record { mode = Read; of = place; count = 1 })))
+  module _ (name : List ℕ) (writer : HoldingState) (here : writer.of ≡ place) (is : table name ≡ Some (things.Holding writer)) (max : ℕ) (kind : named.object.kind ≡ ReaderWriter max)
+      (all : writer.count ≡ max) where
+    pub lowers : 0 < writer.count → (table' : List ℕ → Option Thing) → IsSteady (downgraded writer.count object)
+        → Updated table table' name (Some (things.Holding (record { mode = Read; of = place; count = 1 })))
         → Lands named place (rules.Downgrade name) Done tags table' (downgraded writer.count object)
     lowers some table' steady updated =
         let reads : Entry Tag → Entry Tag = λ e. record { name = tag Read name; size = 1 } in
@@ -515,7 +537,7 @@ module _ {tags : ℕ → Tag} {table : List ℕ → Option Thing} {place : ℕ} 
         let sum = changed_total name writer here is reads same others Read 1 refl in
         let line' = give_back (writer.count - 1) line in
         lands (rules.Downgrade name) Done tags table' (downgraded writer.count object) line' (change (is_tag bytes_eq name) reads held)
-        (ap₂ (λ k o. downgrade_of k o (is_tag bytes_eq name) (tag Read name) named.object) kind (held_there name writer here is)
+        (ap (λ k. turn Done (record named.object { line = give_back (size_of k Write - 1) line; held = change (is_tag bytes_eq name) reads held })) kind
         ∙ ap (λ m. turn Done (record named.object { line = give_back (m - 1) line; held = change (is_tag bytes_eq name) reads held })) (sym all))
         (given_back_is (writer.count - 1)) refl refl (omega (arith, spot.at.held))
         (changed_once name writer here is reads same others Read 1 refl) steady

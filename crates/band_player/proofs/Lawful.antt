@@ -1,7 +1,7 @@
 -- Each object of a state that the table stands for has its laws.
 use Rattle.std.proofs.Common.{◌≡◌, ℕ, ◌+◌, ◌≤◌, List, pos, neg_ℤ, ◌+ℤ◌, ◌≤ℤ◌, refl, sym, ap₂, ◌∙◌, subst, IfSome, arith}
 use Rattle.std.specs.Str.{bytes_eq}
-use Rattle.band_balance.specs.Laws.{HasShares, IsWithin, KeepsShares, LetsIn, shares_of}
+use Rattle.band_balance.specs.Laws.{HasShares, IsWithin, KeepsShares, HasAShare, share_count}
 use Rattle.band_balance.specs.Line.{rename, total, u64_max}
 use Rattle.band_balance.specs.Object.{Kind, Semaphore, Mutex, ReaderWriter}
 use Rattle.band_balance.proofs.Alike.{total-alike}
@@ -34,7 +34,8 @@ module _ (tags : ℕ → Tag) (table : List ℕ → _) (place : ℕ) (object : O
       let law = at.steady.0 in
       record {
         in_hand = subst (λ n. n ≤ u64_max) (sym in_hand_same) law.in_hand;
-        in_all = subst (λ n. (named.object.line.free +ℤ pos n) ≤ℤ pos u64_max) (sym in_hand_same) (subst (λ z. (z +ℤ pos (total object.line.granted + object.held)) ≤ℤ pos u64_max) (sym free_same) law.in_all);
+        in_all = subst (λ n. (named.object.line.free +ℤ pos n) ≤ℤ pos u64_max) (sym in_hand_same)
+            (subst (λ z. (z +ℤ pos (total object.line.granted + object.held)) ≤ℤ pos u64_max) (sym free_same) law.in_all);
         owed = subst (λ z. neg_ℤ (pos u64_max) ≤ℤ z) (sym free_same) law.owed;
       }
 
@@ -47,10 +48,10 @@ module _ (tags : ℕ → Tag) (table : List ℕ → _) (place : ℕ) (object : O
   locked : (kind : Kind) → named.object.kind ≡ kind → IsLockOf kind (kept.shares_of object)
   locked kind is = subst (λ k. IsLockOf k (kept.shares_of object)) (sym at.kind ∙ is) at.steady.1
 
-  lets_in : LetsIn named.object.kind
+  lets_in : HasAShare named.object.kind
   lets_in = go named.object.kind refl
     where
-      go : (kind : Kind) → named.object.kind ≡ kind → LetsIn kind
+      go : (kind : Kind) → named.object.kind ≡ kind → HasAShare kind
       go Semaphore is = tt
       go Mutex is = omega arith
       go (ReaderWriter max) is = (locked (ReaderWriter max) is).some
@@ -58,7 +59,7 @@ module _ (tags : ℕ → Tag) (table : List ℕ → _) (place : ℕ) (object : O
   keeps_shares : KeepsShares named.object
   keeps_shares = go named.object.kind refl
     where
-      go : (kind : Kind) → named.object.kind ≡ kind → IfSome (shares_of kind) (HasShares named.object)
+      go : (kind : Kind) → named.object.kind ≡ kind → IfSome (share_count kind) (HasShares named.object)
       go Semaphore is = tt
       go Mutex is = shares 1 (locked Mutex is)
       go (ReaderWriter max) is = shares max (locked (ReaderWriter max) is).shares

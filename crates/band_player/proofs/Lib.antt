@@ -14,3 +14,4 @@ pub mod Lawful
 pub mod Updates
 pub mod Polled
 pub mod Parted
+pub mod Visits

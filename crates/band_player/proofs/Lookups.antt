@@ -1,15 +1,15 @@
 -- What a call finds under a name, in the table and in a state that it stands for.
-use Rattle.std.proofs.Common.{◌≡◌, ℕ, ◌==◌, Bool, true, false, cond, List, [], Option, Some, None, IsSome, Result, Ok, Err, refl, sym, ap, ◌∙◌, subst, eqb-true}
+use Rattle.std.proofs.Common.{◌≡◌, ℕ, ◌==◌, Bool, true, false, not, cond, List, [], Option, Some, None, IsSome, Result, Ok, Err, refl, sym, ap, ◌∙◌, subst, eqb-true}
 use Rattle.std.specs.List.{slice_get}
 use Rattle.std.specs.Str.{bytes_eq}
 use Rattle.std.proofs.lemmas.Bool.{cond-false, false≢true}
 use Rattle.std.proofs.lemmas.Option.{same_Some}
 use Rattle.band_base.specs.declared.refusal.Refusal.{Refusal}
-use Rattle.band_base.specs.declared.refusal.Refusal.TheVariants.{Kind, Taken}
+use Rattle.band_base.specs.declared.refusal.Refusal.TheVariants.{Kind, Unknown, Taken}
 use Rattle.band_balance.specs.Object.{Mode, is_of}
 use Rattle.band_balance.proofs.Held.{by_bool}
 use Rattle.band_balance.proofs.Rules.{bytes_told}
-use Rattle.band_rules.specs.Plan.{object_of, object_for, lender, same_mode, if_live, if_unused}
+use Rattle.band_rules.specs.Plan.{object_of, object_for, lender, same_mode, is_taken, refuse_if}
 use Rattle.band_rules.specs.State.{State, Named, Standing, Absent, standing}
 use Rattle.band_player.specs.Kept.{wakes_left, StandsFor}
 use Rattle.band_player.specs.Moves.{object_place, offers_at, offering, held_as}
@@ -23,6 +23,13 @@ use Rattle.band_player.proofs.Follow.{Target, target, absent, standing_as}
 use Rattle.band_player.proofs.Lists.{some_at}
 use Rattle.band_player.proofs.Named.{live_thing}
 use Rattle.band_player.proofs.Stood.{stands_as, shown_elsewhere, seen_at}
+
+-- what refuses a name that is live, or that isn't
+abbrev pub if_live : Standing → Result (Unit {0}) Refusal
+if_live standing = refuse_if (not (is_taken standing)) Unknown
+
+abbrev pub if_unused : Standing → Result (Unit {0}) Refusal
+if_unused standing = refuse_if (is_taken standing) Taken
 
 -- what was found is the object at the place, or the refusal is one
 abbrev pub FoundAs : State → Result ℕ Refusal → Result Named Refusal → Type 0
@@ -65,7 +72,8 @@ module _ (old : Table) (none : wakes_left old ≡ []) (state : State) (stands : 
 
   -- what is found in both, by what a name is
   found : (name : List ℕ) (F : Option Thing → Result ℕ Refusal) (G : Standing → Result Named Refusal) → FoundAs state (F None) (G Absent)
-      → ((thing : Thing) (l : Live (place_at thing)) → FoundAs state (F (Some thing)) (G (stands_as l.it.named (shown_of name thing) Absent))) → FoundAs state (F (table name)) (G (standing name state))
+      → ((thing : Thing) (l : Live (place_at thing)) → FoundAs state (F (Some thing)) (G (stands_as l.it.named (shown_of name thing) Absent)))
+      → FoundAs state (F (table name)) (G (standing name state))
   found name F G nothing something = go (table name) refl
     where
       go : (o : Option Thing) → table name ≡ o → FoundAs state (F o) (G (standing name state))
@@ -97,7 +105,8 @@ module _ (old : Table) (none : wakes_left old ≡ []) (state : State) (stands : 
   pub held_found : (mode : Mode) (name : List ℕ) → FoundAs state (place_held (held_as mode (table name))) (lender mode (standing name state))
   held_found mode name = found name (λ o. place_held (held_as mode o)) (lender mode) refl something
     where
-      either : (b : Bool) (holding : HoldingState) (named : Named) → slice_get state holding.of ≡ Some named → FoundAs state (place_held (cond b (Ok holding) (Err Kind))) (cond b (Ok named) (Err Kind))
+      either : (b : Bool) (holding : HoldingState) (named : Named) → slice_get state holding.of ≡ Some named
+          → FoundAs state (place_held (cond b (Ok holding) (Err Kind))) (cond b (Ok named) (Err Kind))
       either true holding named there = there
       either false holding named there = refl
 
@@ -107,9 +116,11 @@ module _ (old : Table) (none : wakes_left old ≡ []) (state : State) (stands : 
       something (things.Holding holding) l = either (same_mode mode holding.mode) holding l.it.named l.it.there
 
   pub held_refused : (mode : Mode) (name : List ℕ) (refusal : Refusal) → held_as mode (table name) ≡ Err refusal → lender mode (standing name state) ≡ Err refusal
-  held_refused mode name refusal is = refuses state refusal (lender mode (standing name state)) (subst (λ h. FoundAs state (place_held h) (lender mode (standing name state))) is (held_found mode name))
+  held_refused mode name refusal is = refuses state refusal (lender mode (standing name state))
+      (subst (λ h. FoundAs state (place_held h) (lender mode (standing name state))) is (held_found mode name))
 
-  pub held_by : (mode : Mode) (name : List ℕ) (holding : HoldingState) (named : Named) → held_as mode (table name) ≡ Ok holding → slice_get state holding.of ≡ Some named → lender mode (standing name state) ≡ Ok named
+  pub held_by : (mode : Mode) (name : List ℕ) (holding : HoldingState) (named : Named) → held_as mode (table name) ≡ Ok holding → slice_get state holding.of ≡ Some named
+      → lender mode (standing name state) ≡ Ok named
   held_by mode name holding named is there =
       finds state holding.of named (lender mode (standing name state)) (subst (λ h. FoundAs state (place_held h) (lender mode (standing name state))) is (held_found mode name)) there
 
@@ -160,4 +171,5 @@ module _ (old : Table) (none : wakes_left old ≡ []) (state : State) (stands : 
           goes ∙ ap (λ o. (shown other a.name o).named) is
           ∙ ap (λ s. s.named) (shown_elsewhere other a.name thing (λ k. apart (sym (eqb-true (place_at thing) place h) ∙ sym k))))
           (λ h.
-          absurd (false≢true (sym (shows ∙ ap (λ o. (shown place a.name o).named) is ∙ ap (λ s. s.named) (cond-false (place_at thing == place) (shown_of a.name thing) unseen h)) ∙ bytes_told.itself a.name)))
+          absurd (false≢true (sym (shows ∙ ap (λ o. (shown place a.name o).named) is ∙ ap (λ s. s.named) (cond-false (place_at thing == place) (shown_of a.name thing) unseen h))
+          ∙ bytes_told.itself a.name)))

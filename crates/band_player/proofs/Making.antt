@@ -4,15 +4,15 @@ use Rattle.std.specs.List.{slice_get}
 use Rattle.std.specs.Str.{bytes_eq}
 use Rattle.std.proofs.lemmas.Option.{none-some, same_Some, slice_get_within}
 use Rattle.band_base.specs.declared.refusal.Refusal.TheVariants as refusals
-use Rattle.band_balance.specs.Laws.{LetsIn}
-use Rattle.band_balance.specs.Object.{Object, new_semaphore, new_mutex, new_reader_writer}
+use Rattle.band_balance.specs.Laws.{HasAShare}
+use Rattle.band_balance.specs.Object.{Object, Semaphore, Mutex, ReaderWriter, new_object}
 use Rattle.band_balance.specs.Line.{open_line}
 use Rattle.band_balance.proofs.Alike.{alike_itself}
 use Rattle.band_balance.proofs.Held.{by_bool, other_way}
 use Rattle.band_balance.proofs.Rules.{bytes_told}
 use Rattle.band_rules.specs.Order.{IsInOrder}
-use Rattle.band_rules.specs.Plan.{Make, ◌>>=◌, making, most_readers, plan}
-use Rattle.band_rules.specs.State.{State, Named, Tag}
+use Rattle.band_rules.specs.Plan.{Make, ◌>>=◌, most_readers, plan}
+use Rattle.band_rules.specs.State.{State, Named, Tag, standing}
 use Rattle.band_rules.specs.Step.{Effect, perform, step}
 use Rattle.band_rules.specs.declared.reply.Reply.TheVariants as replies
 use Rattle.band_rules.proofs.Planned.{some_readers}
@@ -31,7 +31,7 @@ use Rattle.band_player.specs.declared.object.New.TheVariants as news
 use Rattle.band_player.specs.declared.table.Table.{Table}
 use Rattle.band_player.proofs.Acting.{IsOf, shown_there, slot_there, stands_by, there_still, Touched, touched_one}
 use Rattle.band_player.proofs.Follow.{none_woken, refused}
-use Rattle.band_player.proofs.Lookups.{taken_name, unused}
+use Rattle.band_player.proofs.Lookups.{taken_name, unused, if_unused}
 use Rattle.band_player.proofs.Stood.{shown_here, shown_elsewhere}
 
 -- what stands at a place once one more came last
@@ -46,17 +46,17 @@ at_push (y ∷ ys) new (suc k) x at = go (at_push ys new k x at)
     go (inr last) = inr (ap suc last.0, last.1)
 
 abbrev pub object_made : New → Object Tag
-object_made (news.Semaphore n) = new_semaphore n
-object_made news.Mutex = new_mutex
-object_made (news.ReaderWriter n) = new_reader_writer (most_readers n)
+object_made (news.Semaphore n) = new_object Semaphore n
+object_made news.Mutex = new_object Mutex 1
+object_made (news.ReaderWriter n) = new_object (ReaderWriter (most_readers n)) (most_readers n)
 
-plan_makes : (new : New) (made : List ℕ) (state : State) → plan (make_call new made) state ≡ making made (object_made new) state
+plan_makes : (new : New) (made : List ℕ) (state : State) → plan (make_call new made) state ≡ (if_unused (standing made state) >>= λ found. Make made (object_made new))
 plan_makes (news.Semaphore n) made state = refl
 plan_makes news.Mutex made state = refl
 plan_makes (news.ReaderWriter n) made state = refl
 
 -- so the object has readers
-pub lets_in : (new : New) (made : List ℕ) → ForReaders (make_call new made) → LetsIn (kind_made new)
+pub lets_in : (new : New) (made : List ℕ) → ForReaders (make_call new made) → HasAShare (kind_made new)
 lets_in (news.Semaphore n) made for = tt
 lets_in news.Mutex made for = omega arith
 lets_in (news.ReaderWriter n) made for = some_readers n made for
@@ -75,11 +75,13 @@ module _ (new : New) (made : List ℕ) where
       go (news.ReaderWriter n) = refl
 
   new_stands : (tags : ℕ → Tag) (table : List ℕ → Option Thing) (place : ℕ) → IsSteady (of_kind (kind_made new) (new_state place (count_made new)))
-      → ((name : List ℕ) → record unseen { named = bytes_eq name made } ≡ shown place name (table name)) → ((name : List ℕ) → HasSlotAt tags place (new_state place (count_made new)).line name (table name))
+      → ((name : List ℕ) → record unseen { named = bytes_eq name made } ≡ shown place name (table name))
+      → ((name : List ℕ) → HasSlotAt tags place (new_state place (count_made new)).line name (table name))
       → StandsAt tags table place (of_kind (kind_made new) (new_state place (count_made new))) new_named
   new_stands tags table place steady every slots = go new steady (λ name. new_seen name ∙ every name) slots
     where
-      go : (new : New) → IsSteady (of_kind (kind_made new) (new_state place (count_made new))) → ((name : List ℕ) → seen name (record { name = made; object = object_made new }) ≡ shown place name (table name))
+      go : (new : New) → IsSteady (of_kind (kind_made new) (new_state place (count_made new)))
+          → ((name : List ℕ) → seen name (record { name = made; object = object_made new }) ≡ shown place name (table name))
           → ((name : List ℕ) → HasSlotAt tags place (new_state place (count_made new)).line name (table name))
           → StandsAt tags table place (of_kind (kind_made new) (new_state place (count_made new))) (record { name = made; object = object_made new })
       go (news.Semaphore n) steady every slots = record { kind = refl; number = refl; line = alike_itself (open_line _); held = refl; held_once = tt; steady = steady; every = every; slots = slots }
@@ -159,7 +161,8 @@ module _ (old : Table) (none : wakes_left old ≡ []) (state : State) (stands : 
         → StandsAt (stands.tags other) table' other kept_other another
     each_stands other kept_other another kept_at at = go (at_push kept object other kept_other kept_at) (at_push state (new_named new made) other another at)
       where
-        go : (slice_get kept other ≡ Some kept_other) ⊎ ((other ≡ length kept) × (object ≡ kept_other)) → (slice_get state other ≡ Some another) ⊎ ((other ≡ length state) × (new_named new made ≡ another))
+        go : (slice_get kept other ≡ Some kept_other) ⊎ ((other ≡ length kept) × (object ≡ kept_other))
+            → (slice_get state other ≡ Some another) ⊎ ((other ≡ length state) × (new_named new made ≡ another))
             → StandsAt (stands.tags other) table' other kept_other another
         go (inl here) (inl there) =
             let within = slice_get_within kept other kept_other here in

@@ -1,5 +1,5 @@
 -- What the table says of a name, whatever it stands for.
-use Rattle.std.proofs.Common.{◌≡◌, ℕ, ◌==◌, Bool, true, false, cond, List, Option, Some, None, IsSome, Result, Ok, Err, refl, sym, ap, ◌∙◌, subst, eqb-true}
+use Rattle.std.proofs.Common.{◌≡◌, ℕ, ◌==◌, Bool, true, false, cond, List, Option, Some, None, IsSome, IsOk, Result, Ok, Err, refl, sym, ap, ◌∙◌, subst, eqb-true}
 use Rattle.std.specs.List.{slice_get}
 use Rattle.std.specs.Result.{OnErr}
 use Rattle.std.specs.Str.{bytes_eq}
@@ -19,6 +19,9 @@ use Rattle.band_player.specs.Moves.{object_place, offers_at, offering, held_as, 
 use Rattle.band_player.specs.Objects.{ObjectState, HoldingState}
 use Rattle.band_player.specs.Thing.{Thing}
 use Rattle.band_player.specs.Thing as things
+use Rattle.band_player.specs.Names.{is_object}
+use Rattle.band_player.specs.Token.{TokenState, thing_of, IsHeld}
+use Rattle.band_player.specs.Token as tokens
 
 pub object_from : (found : Option Thing) (place : ℕ) → object_place found ≡ Ok place → found ≡ Some (things.Object place)
 object_from None place is = cc
@@ -26,7 +29,8 @@ object_from (Some (things.Object other)) place is = let same : other ≡ place =
 object_from (Some (things.Request other request)) place is = cc
 object_from (Some (things.Holding holding)) place is = cc
 
-pub offering_as : (mode : Mode) (kept : List ObjectState) (found : Result ℕ Refusal) (place : ℕ) (object : ObjectState) (b : Bool) → found ≡ Ok place → slice_get kept place ≡ Some object → is_of object.kind mode ≡ b
+pub offering_as : (mode : Mode) (kept : List ObjectState) (found : Result ℕ Refusal) (place : ℕ) (object : ObjectState) (b : Bool) → found ≡ Ok place → slice_get kept place ≡ Some object
+    → is_of object.kind mode ≡ b
     → offering mode kept found ≡ cond b (Ok place) (Err Kind)
 offering_as mode kept found place object b is there offers =
     ap (offering mode kept) is ∙ ap (λ o. cond (offers_at mode o) (Ok place) (Err Kind)) there ∙ ap (λ (t : Bool). cond t (Ok place) (Err Kind)) offers
@@ -62,6 +66,28 @@ held_from mode (Some (things.Holding other)) holding is = test (same_mode mode o
         (ap (λ h. Some (things.Holding h)) one, subst (λ (h : HoldingState). h.mode ≡ mode) one (modes_one mode other.mode same))
     test false same is = cc
 
+-- what is held in a mode is a token that is held in it
+pub held_token : (mode : Mode) (token : TokenState) (holding : HoldingState) → held_as mode (Some (thing_of token)) ≡ Ok holding → (token ≡ tokens.Holding holding) × IsHeld mode token
+held_token mode (tokens.Request request) holding is = cc
+held_token mode (tokens.Holding other) holding is =
+    let found = held_from mode (Some (things.Holding other)) holding is in
+    let there = found.0 in
+    let one : other ≡ holding = cc in
+    (ap tokens.Holding one, ap (λ (h : HoldingState). h.mode) one ∙ found.1)
+
+pub held_ok : (mode : Mode) (token : TokenState) → IsOk (held_as mode (Some (thing_of token))) → IsHeld mode token
+held_ok mode token ok = go (held_as mode (Some (thing_of token))) refl ok
+  where
+    go : (found : Result HoldingState Refusal) → held_as mode (Some (thing_of token)) ≡ found → IsOk found → IsHeld mode token
+    go (Ok holding) is ok = (held_token mode token holding is).1
+    go (Err refusal) is ok = cc
+
+pub object_is : (found : Option Thing) → is_object found ≡ true → (place : ℕ) × (found ≡ Some (things.Object place))
+object_is None is = cc
+object_is (Some (things.Object place)) is = (place, refl)
+object_is (Some (things.Request place request)) is = cc
+object_is (Some (things.Holding holding)) is = cc
+
 -- two permits of one object, under two names
 pub record CanMerge (kept spent : List ℕ) (first_found second_found : Option Thing) (place : ℕ) : Type 0 where
   pub first : HoldingState
@@ -72,7 +98,8 @@ pub record CanMerge (kept spent : List ℕ) (first_found second_found : Option T
   pub one : first.of ≡ second.of
   pub at : place ≡ first.of
 
-pub can_merge : (kept spent : List ℕ) (first_found second_found : Option Thing) (place : ℕ) → mergeable kept spent first_found second_found ≡ Ok place → CanMerge kept spent first_found second_found place
+pub can_merge : (kept spent : List ℕ) (first_found second_found : Option Thing) (place : ℕ) → mergeable kept spent first_found second_found ≡ Ok place
+    → CanMerge kept spent first_found second_found place
 can_merge kept spent None second place is = cc
 can_merge kept spent (Some first) None place is = cc
 can_merge kept spent (Some first) (Some second) place is = go (held_as Permit (Some first)) (held_as Permit (Some second)) (bytes_eq kept spent) refl refl refl is

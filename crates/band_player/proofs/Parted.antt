@@ -26,6 +26,7 @@ module _ (t0 t1 t2 t3 : List ℕ → Option Thing) (name made : List ℕ) (room 
   }
 
 -- a name that was taken out and put back as it was
-pub as_before : (t0 t1 t2 t3 : List ℕ → Option Thing) (name : List ℕ) (room v : Option Thing) → Updated t0 t1 name room → ((n : List ℕ) → t2 n ≡ t1 n) → Updated t2 t3 name v → t0 name ≡ v → (n : List ℕ) → t3 n ≡ t0 n
+pub as_before : (t0 t1 t2 t3 : List ℕ → Option Thing) (name : List ℕ) (room v : Option Thing) → Updated t0 t1 name room → ((n : List ℕ) → t2 n ≡ t1 n) → Updated t2 t3 name v → t0 name ≡ v
+    → (n : List ℕ) → t3 n ≡ t0 n
 as_before t0 t1 t2 t3 name room v out same back is =
     updated_same t0 t3 name v (record { here = back.here; others = λ n other. back.others n other ∙ same n ∙ out.others n other }) is

@@ -1,5 +1,5 @@
--- What a poll of a request says of its name.
-use Rattle.std.proofs.Common.{◌≡◌, ℕ, true, Option, Some, None, Result, Ok, Err, refl, sym, ap, ap₂, subst, ◌∙◌, ◌<◌, List, length, arith}
+-- What a poll of a token says, and what fits a token.
+use Rattle.std.proofs.Common.{◌≡◌, ℕ, true, Option, Some, None, IsOk, Result, Ok, Err, refl, sym, ap, subst, ◌∙◌, ◌<◌, List, length, arith}
 use Rattle.std.specs.List.{slice_get}
 use Rattle.std.specs.Prelude.{slice_index_or as get_or}
 use Rattle.std.proofs.lemmas.Option.{same_Some, slice_get_read, slice_get_within}
@@ -7,84 +7,67 @@ use Rattle.band_base.specs.declared.poll.Poll.{Poll}
 use Rattle.band_base.specs.declared.poll.Poll.TheVariants as polls
 use Rattle.band_base.specs.declared.poll.PollError.{PollError}
 use Rattle.band_base.specs.declared.poll.PollError.TheVariants as errors
-use Rattle.band_balance.specs.Object.{Kind, is_of}
-use Rattle.band_balance.specs.Rule.{Fits}
-use Rattle.band_rules.specs.declared.reply.Reply.TheVariants as replies
 use Rattle.band_sem.specs.Permit.{Permit as Held}
 use Rattle.band_sem.specs.Request.{Request as Asked, Stage, NotPolled, Joined, Finished}
-use Rattle.band_sem.specs.Semaphore.{SemaphoreState, FirstPoll, PollsAt}
-use Rattle.band_player.specs.Moves.{permit_answer, FitsRequest, FitsHolding, PollsAs, IsAnswered, mode_of, size_for}
-use Rattle.band_player.specs.Objects.{ObjectState, RequestState, HoldingState, of_kind, shares_of, asked_of}
-use Rattle.band_player.specs.Thing as things
-use Rattle.band_player.specs.declared.object.Want.{Want}
-use Rattle.band_player.specs.declared.object.Want.TheVariants as wants
+use Rattle.band_sem.specs.Semaphore.{SemaphoreState, PollsAt, finished}
+use Rattle.band_player.specs.Moves.{FitsRequest, FitsHolding, FitsToken, CanPoll, WasPolled, IsFit, IsJoined, IsOpen}
+use Rattle.band_player.specs.Objects.{ObjectState}
+use Rattle.band_player.specs.Thing.{place_at}
+use Rattle.band_player.specs.Token.{TokenState, Request, Holding, thing_of}
 
-pub ready_answered : (place : ℕ) (result : Result (Poll HoldingState) PollError) (left : RequestState) (holding : HoldingState) → result ≡ Ok (polls.Ready holding) → IsAnswered place result left (things.Holding holding) replies.Ready
-ready_answered place (Ok (polls.Ready h)) left holding is = let same : h ≡ holding = cc in (ap things.Holding (sym same), refl)
-ready_answered place (Ok polls.Pending) left holding is = cc
-ready_answered place (Err e) left holding is = cc
+-- a request that is ready has ended
+pub ends : (stage : Stage) (request : Asked) (waker : ℕ) (old : SemaphoreState) (permit : Held) (left : Asked) (new : SemaphoreState)
+    → PollsAt stage request waker old (Ok (polls.Ready permit)) left new → PollsAt stage request waker old (Ok (polls.Ready permit)) (finished request) new
+ends NotPolled request waker old permit left new (served, permit_is, new_is, left_is) = (served, permit_is, new_is, refl)
+ends (Joined slot) request waker old permit left new (there, permit_is, new_is, left_is) = (there, permit_is, new_is, refl)
+ends Finished request waker old permit left new (result_is, new_is, left_is) = cc
 
-pub pending_answered : (place : ℕ) (result : Result (Poll HoldingState) PollError) (left : RequestState) → result ≡ Ok polls.Pending → IsAnswered place result left (things.Request place left) replies.Pending
-pending_answered place (Ok (polls.Ready h)) left is = cc
-pending_answered place (Ok polls.Pending) left is = (refl, refl)
-pending_answered place (Err e) left is = cc
+-- a poll that fails is a first one, and changes nothing
+pub fails : (stage : Stage) (request : Asked) (waker : ℕ) (old : SemaphoreState) (error : PollError) (left : Asked) (new : SemaphoreState)
+    → IsOpen stage → PollsAt stage request waker old (Err error) left new → (new ≡ old) × (IsJoined stage → ⊥)
+fails NotPolled request waker old errors.NoMemory left new fresh polled = (polled.1, λ joined. joined)
+fails NotPolled request waker old error left new fresh polled = absurd polled
+fails (Joined slot) request waker old error left new fresh polled = absurd polled
+fails Finished request waker old error left new fresh polled = absurd fresh
 
--- a first poll that fails changes nothing
-pub unmoved : (request : RequestState) (waker : ℕ) (old : ObjectState) (result : Result (Poll HoldingState) PollError) (left : RequestState) (new : ObjectState) (error : PollError)
-    → request.stage ≡ NotPolled → result ≡ Err error → PollsAs request waker old result left new → new ≡ old
-unmoved request waker old (Ok answer) left new error stage is polled = cc
-unmoved request waker old (Err e) left new error stage is polled =
-    ap₂ of_kind polled.kind (same e (subst (λ s. PollsAt s (asked_of request) waker (shares_of old) (Err e) (asked_of left) (shares_of new)) stage polled.polled))
-  where
-    same : (e : PollError) → FirstPoll (asked_of request) waker (shares_of old) (Err e) (asked_of left) (shares_of new) → shares_of new ≡ shares_of old
-    same errors.NoMemory (waits, new_is, left_is) = new_is
-    same e polled = absurd polled
+opens : (stage : Stage) → IsJoined stage → IsOpen stage
+opens NotPolled joined = tt
+opens (Joined slot) joined = tt
+opens Finished joined = joined
 
--- a poll leaves the number of a request
-pub polled_of : (request : RequestState) (waker : ℕ) (old : ObjectState) (result : Result (Poll HoldingState) PollError) (left : RequestState) (new : ObjectState)
-    → PollsAs request waker old result left new → left.of ≡ request.of
-polled_of request waker old result left new is =
-    same (asked_of request) (asked_of left) (shares_of old) (shares_of new) request.stage (permit_answer result) is.polled
-  where
-    same : (request left : Asked) (old new : SemaphoreState) (stage : Stage) (result : Result (Poll Held) PollError) → PollsAt stage request waker old result left new → left.of ≡ request.of
-    same request left old new NotPolled (Ok (polls.Ready permit)) polled = ap (λ (r : Asked). r.of) polled.3
-    same request left old new NotPolled (Ok polls.Pending) polled = ap (λ (r : Asked). r.of) polled.1.3
-    same request left old new NotPolled (Err errors.NoMemory) polled = ap (λ (r : Asked). r.of) polled.2
-    same request left old new NotPolled (Err error) polled = absurd polled
-    same request left old new (Joined slot) (Ok (polls.Ready permit)) polled = ap (λ (r : Asked). r.of) polled.3
-    same request left old new (Joined slot) (Ok polls.Pending) polled = ap (λ (r : Asked). r.of) polled.2
-    same request left old new (Joined slot) (Err error) polled = absurd polled
-    same request left old new Finished result polled = ap (λ (r : Asked). r.of) polled.2
+pub can_poll : (object : ObjectState) (token : TokenState) → FitsToken (Some object) token → CanPoll object token
+can_poll object (Request request) fit = (opens request.stage fit.0, fit.1, fit.2, fit.3)
+can_poll object (Holding holding) fit = tt
 
--- what fits has an object
-pub there_of : (o : Option ObjectState) (request : RequestState) → FitsRequest o request → (object : ObjectState) × (o ≡ Some object)
-there_of None request fit = absurd fit
-there_of (Some object) request fit = (object, refl)
+pub was_polled : (object : ObjectState) (token : TokenState) → FitsToken (Some object) token → WasPolled token
+was_polled object (Request request) fit = fit.0
+was_polled object (Holding holding) fit = tt
 
--- its place is there, and the object that is read at it
-pub record Reads (kept : List ObjectState) (holding : HoldingState) (place : ℕ) : Type 0 where
+-- the place of a token's object is there, and the object that is read at it knows the token
+pub record Reads (kept : List ObjectState) (token : TokenState) (place : ℕ) : Type 0 where
   pub within : place < length kept
-  pub there : (object : ObjectState) → object ≡ get_or kept place object → slice_get kept holding.of ≡ Some object
-  pub fits : (object : ObjectState) → object ≡ get_or kept place object → FitsHolding (Some object) holding
+  pub there : (object : ObjectState) → object ≡ get_or kept place object → slice_get kept (place_at (thing_of token)) ≡ Some object
+  pub fits : (object : ObjectState) → object ≡ get_or kept place object → FitsToken (Some object) token
 
-pub reads_held : (kept : List ObjectState) (holding : HoldingState) (place : ℕ) → place ≡ holding.of → FitsHolding (slice_get kept holding.of) holding → Reads kept holding place
-reads_held kept holding place at fit = go (slice_get kept holding.of) refl fit
+pub reads : (kept : List ObjectState) (token : TokenState) (place : ℕ) → place ≡ place_at (thing_of token) → IsFit kept (thing_of token) → Reads kept token place
+reads kept token place at fit = go (slice_get kept (place_at (thing_of token))) refl (known token fit)
   where
-    go : (o : Option ObjectState) → slice_get kept holding.of ≡ o → FitsHolding o holding → Reads kept holding place
-    go None is fit = absurd fit
+    known : (token : TokenState) → IsFit kept (thing_of token) → FitsToken (slice_get kept (place_at (thing_of token))) token
+    known (Request request) fit = fit
+    known (Holding holding) fit = fit
+
+    never : (token : TokenState) → FitsToken None token → ⊥
+    never (Request request) fit = fit
+    never (Holding holding) fit = fit
+
+    go : (o : Option ObjectState) → slice_get kept (place_at (thing_of token)) ≡ o → FitsToken o token → Reads kept token place
+    go None is fit = absurd (never token fit)
     go (Some object) is fit =
-        let within : holding.of < length kept = slice_get_within kept holding.of object is in
-        let read : (other : ObjectState) → other ≡ get_or kept place other → slice_get kept holding.of ≡ Some other
+        let within : place_at (thing_of token) < length kept = slice_get_within kept (place_at (thing_of token)) object is in
+        let read : (other : ObjectState) → other ≡ get_or kept place other → slice_get kept (place_at (thing_of token)) ≡ Some other
         = λ other seen. ap (slice_get kept) (sym at) ∙ slice_get_read kept _ place other refl (omega arith) seen in
         record {
           within = omega arith;
           there = read;
-          fits = λ other seen. subst (λ (s : ObjectState). FitsHolding (Some s) holding) (same_Some object other (sym is ∙ read other seen)) fit;
+          fits = λ other seen. subst (λ (s : ObjectState). FitsToken (Some s) token) (same_Some object other (sym is ∙ read other seen)) fit;
         }
-
--- what is offered fits
-pub want_fits : (kind : Kind) (want : Want) → is_of kind (mode_of want) ≡ true → Fits kind (mode_of want) (size_for want kind)
-want_fits kind (wants.Permits n) is = is
-want_fits kind wants.Lock is = (is, refl)
-want_fits kind wants.Read is = (is, refl)
-want_fits kind wants.Write is = (is, refl)

@@ -6,7 +6,7 @@ use Rattle.std.proofs.lemmas.Bool.{cond-true, cond-false, false≢true}
 use Rattle.std.proofs.lemmas.Option.{none-some}
 use Rattle.band_balance.specs.Laws.{Pairwise}
 use Rattle.band_balance.specs.Line.{Entry, entry_named, without, renamed}
-use Rattle.band_balance.specs.Rule.{is as is_tag}
+use Rattle.band_balance.specs.Rule.{has_name as is_tag}
 use Rattle.band_balance.proofs.Distinct.{tests_agree}
 use Rattle.band_balance.proofs.Fronts.{unmapped}
 use Rattle.band_balance.proofs.Held.{by_bool}

@@ -45,7 +45,8 @@ module _ (tags : ℕ → ℕ → Tag) (table : List ℕ → Option Thing) (kept 
   absent_there name none = nowhere name state (λ place other at. seen_at name place other at ∙ ap (shown place name) none)
 
   -- what a live name is, by the object at its place
-  pub standing_there : (name : List ℕ) (thing : Thing) (named : Named) → table name ≡ Some thing → slice_get state (place_at thing) ≡ Some named → standing name state ≡ stands_as named (shown_of name thing) Absent
+  pub standing_there : (name : List ℕ) (thing : Thing) (named : Named) → table name ≡ Some thing → slice_get state (place_at thing) ≡ Some named
+      → standing name state ≡ stands_as named (shown_of name thing) Absent
   standing_there name thing named is at =
       only_at name state (place_at thing) named at
       (λ place other apart there. seen_at name place other there ∙ ap (shown place name) is ∙ shown_elsewhere place name thing apart)

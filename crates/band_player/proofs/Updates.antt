@@ -9,6 +9,9 @@ use Rattle.std.specs.Map.{lookup}
 use Rattle.std.specs.Result.{OnOk, OnErr, IfOk}
 use Rattle.std.specs.Str.{bytes_eq}
 use Rattle.std.proofs.lemmas.Map.Text.{is_eq-slice_cmp}
+use Rattle.band_base.specs.declared.refusal.Refusal.{Refusal}
+use Rattle.band_base.specs.declared.refusal.Refusal.TheVariants.{Unknown}
+use Rattle.band_player.specs.Moves.{object_place}
 use Rattle.band_player.specs.Apart.{at, AreApart, Sets}
 use Rattle.band_player.specs.Thing.{Thing}
 use Rattle.band_player.specs.Thing as things
@@ -34,7 +37,8 @@ module _ {X : Type 0} (m n : BTreeMap (List ℕ) X) (k : List ℕ) (w : Option X
   at_kept other = sets.each q ∙ cond-false (is_at (slice_cmp nat_cmp k) q) w (at m q) (is_eq-slice_cmp k q ∙ other)
 
 -- a map that was written at a name
-pub sets_written : {X : Type 0} (m inside n written : BTreeMap (List ℕ) X) (k : List ℕ) (x y : X) → inside ≡ m → n ≡ written → x ≡ y → Updates (slice_cmp nat_cmp) inside written k (Some x) → Sets m n k (Some y)
+pub sets_written : {X : Type 0} (m inside n written : BTreeMap (List ℕ) X) (k : List ℕ) (x y : X) → inside ≡ m → n ≡ written → x ≡ y → Updates (slice_cmp nat_cmp) inside written k (Some x)
+    → Sets m n k (Some y)
 sets_written {X} m inside n written k x y seen is same update =
     subst (λ z. Sets m n k (Some z)) same (subst (λ (o : BTreeMap (List ℕ) X). Sets m o k (Some x)) (sym is) (sets_seen m inside written k (Some x) seen update))
 
@@ -43,7 +47,8 @@ at_same : {X : Type 0} (m n : BTreeMap (List ℕ) X) → IsUnchanged m n → (na
 at_same m n same name = ap (λ es. lookup (is_at (slice_cmp nat_cmp name)) es) same
 
 -- a map from which a name was taken that it didn't have
-pub at_without : (m inside without n : BTreeMap (List ℕ) TokenState) (k : List ℕ) → inside ≡ m → at m k ≡ None → Updates (slice_cmp nat_cmp) inside without k None → IsUnchanged without n → (q : List ℕ) → at n q ≡ at m q
+pub at_without : (m inside without n : BTreeMap (List ℕ) TokenState) (k : List ℕ) → inside ≡ m → at m k ≡ None → Updates (slice_cmp nat_cmp) inside without k None → IsUnchanged without n
+    → (q : List ℕ) → at n q ≡ at m q
 at_without m inside without n k seen free update same q =
     let sets = sets_seen m inside without k None seen update in
     at_same without n same q ∙ by_bool (bytes_eq k q)
@@ -70,6 +75,12 @@ no_token (Some place) t is = absurd (none-some (things.Object place) (sym is))
 no_place : (o : Option ℕ) (t : Option TokenState) → is_object (thing_from o t) ≡ false → o ≡ None
 no_place None t test = refl
 no_place (Some place) t test = absurd (false≢true (sym test))
+
+-- a name that is neither a token's nor an object's
+pub no_token_kind : (o : Option ℕ) (t : Option TokenState) (refusal : Refusal) → t ≡ None → object_place (thing_from o t) ≡ Err refusal → (thing_from o t ≡ None) × (refusal ≡ Unknown)
+no_token_kind None None refusal none is = (refl, cc)
+no_token_kind None (Some token) refusal none is = absurd (none-some token (sym none))
+no_token_kind (Some place) t refusal none is = cc
 
 none_unless : (o : Option ℕ) → ((place : ℕ) → o ≡ Some place → ⊥) → o ≡ None
 none_unless None never = refl
@@ -100,7 +111,8 @@ module _ (names : Names) (k : List ℕ) where
       others = λ q other. ap (λ o. thing_from o (at names.tokens q)) (at_kept names.objects objects k _ (sets_of names.objects objects k _ update) q other);
     }
 
-    pub object_apart : {A E : Type 0} (result : Result A E) → at names.tokens k ≡ None → OnOk result (Updates (slice_cmp nat_cmp) names.objects objects k (Some place)) → OnErr result (IsUnchanged names.objects objects)
+    pub object_apart : {A E : Type 0} (result : Result A E) → at names.tokens k ≡ None → OnOk result (Updates (slice_cmp nat_cmp) names.objects objects k (Some place))
+        → OnErr result (IsUnchanged names.objects objects)
         → AreApart objects names.tokens
     object_apart (Ok x) free update same name p token is_place is_token = by_bool (bytes_eq k name)
         (λ same_name. none-some token (sym free ∙ ap (at names.tokens) (bytes_told.equal k name same_name) ∙ is_token))

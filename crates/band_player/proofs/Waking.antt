@@ -29,7 +29,8 @@ same_quiet : (old new : ObjectState) (result : Option Waker) → TakesWakeOf old
 same_quiet old new None takes = record { kind = takes.kind; number = ap (λ s. s.number) takes.woken.1; line = ap (λ s. quiet s.line) takes.woken.1; held = ap (λ s. s.held) takes.woken.1 }
 same_quiet old new (Some waker) takes = record { kind = takes.kind; number = ap (λ s. s.number) takes.woken.1; line = ap (λ s. quiet s.line) takes.woken.1; held = ap (λ s. s.held) takes.woken.1 }
 
-module _ (old new : Table) (object object' : ObjectState) (result : Option Waker) (there : slice_get old.objects.items old.last ≡ Some object) (takes : TakesWakeOf object result object') (steady : IsSteady object')
+module _ (old new : Table) (object object' : ObjectState) (result : Option Waker) (there : slice_get old.objects.items old.last ≡ Some object) (takes : TakesWakeOf object result object')
+    (steady : IsSteady object')
     (names : new.names ≡ old.names) (items : new.objects.items ≡ slice_set old.objects.items old.last object') (last : new.last ≡ old.last) (state : State) (stands : StandsFor old state) where
   stands_at : (named : Named) → StandsAt (stands.tags old.last) (thing_at old.names) old.last object named → StandsAt (stands.tags old.last) (thing_at old.names) old.last object' named
   stands_at named at =
@@ -42,7 +43,8 @@ module _ (old new : Table) (object object' : ObjectState) (result : Option Waker
         held_once = at.held_once;
         steady = steady;
         every = at.every;
-        slots = λ name. slots_kept (stands.tags old.last) old.last object.line object'.line (λ slot. ap (λ (l : Line ℕ). entry_named (is_slot slot) (requests l)) same.line) name (thing_at old.names name) (at.slots name);
+        slots = λ name. slots_kept (stands.tags old.last) old.last object.line object'.line (λ slot. ap (λ (l : Line ℕ). entry_named (is_slot slot) (requests l)) same.line) name
+            (thing_at old.names name) (at.slots name);
       }
 
   each_after : (place : ℕ) (kept : ObjectState) (named : Named) → slice_get (slice_set old.objects.items old.last object') place ≡ Some kept → slice_get state place ≡ Some named

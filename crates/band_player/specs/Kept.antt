@@ -20,7 +20,8 @@ wakes_left table = wakes_of (slice_get table.objects.items table.last)
 
 -- no object but the one that was called last has wakers to take
 abbrev pub OthersQuiet : ℕ → List ObjectState → Type 0
-OthersQuiet last kept = (place : ℕ) (object : ObjectState) → place ≢ last → slice_get kept place ≡ Some object → object.line.wakes ≡ []
+OthersQuiet last kept = (place : ℕ) (object : ObjectState) → place ≢ last
+    → slice_get kept place ≡ Some object → object.line.wakes ≡ []
 
 -- the table stands for a state, by some names of the slots
 pub record StandsFor (table : Table) (state : State) : Type 0 where
@@ -32,7 +33,8 @@ pub record StandsFor (table : Table) (state : State) : Type 0 where
 abbrev pub IsSound : Table → Type 0
 IsSound table = ∥ ((state : State) × StandsFor table state) ∥₁
 
--- for every state that was stood for, the reply and the wakers are those of the call, and what it leaves is stood for
+-- for every state that was stood for, the reply and the wakers are those of the call, and what it leaves is
+-- stood for
 pub record FollowsFrom (call : Call) (reply : Reply) (new : Table) (state : State) : Type 0 where
   pub replied : reply ≡ (step call state).reply
   pub woken : wakes_left new ≡ (step call state).woken

@@ -8,3 +8,4 @@ pub mod Table
 pub mod Thing
 pub mod Token
 pub mod Tokens
+pub mod Visits

@@ -1,5 +1,6 @@
 -- What a poll and a drop of a thing make of the semaphores.
-use Rattle.std.specs.Prelude.{◌≡◌, ℕ, Bool, true, false, ◌+◌, ◌-◌, ◌<◌, ◌≤◌, ◌==◌, if◌then◌else◌, List, length, Option, Some, None, Result, Ok, Err, slice_get, slice_set}
+use Rattle.std.specs.Prelude.{◌≡◌, ℕ, Bool, true, false, ◌+◌, ◌-◌, ◌<◌, ◌≤◌, ◌==◌, if◌then◌else◌, List}
+use Rattle.std.specs.Prelude.{length, Option, Some, None, Result, Ok, Err, slice_get, slice_set}
 use Rattle.std.specs.Str.{bytes_eq}
 use Rattle.band_balance.specs.Line.{u64_max}
 use Rattle.band_base.specs.declared.poll.Poll.{Poll}
@@ -7,13 +8,14 @@ use Rattle.band_base.specs.declared.poll.Poll.TheVariants as polls
 use Rattle.band_base.specs.declared.poll.PollError.{PollError}
 use Rattle.band_base.specs.declared.refusal.Refusal.{Refusal}
 use Rattle.band_base.specs.declared.refusal.Refusal.TheVariants.{Unknown, Kind, Same, Finished, Other}
-use Rattle.band_sem.specs.Request.{Stage}
+use Rattle.band_sem.specs.Request.{Request as Asked, Stage, new_request}
 use Rattle.band_sem.specs.Request as stages
-use Rattle.band_sem.specs.Semaphore.{IsOwn, Polls, given_back, cancelled}
+use Rattle.band_sem.specs.Semaphore.{IsOwn, Polls, finished, given_back, cancelled}
 use Rattle.band_sem.specs.Permit.{Permit as Held}
 use Rattle.band_balance.specs.Object.{Mode, Permit, Lock, Read, Write, size_of}
 use Rattle.band_balance.specs.Object as object
-use Rattle.band_player.specs.Objects.{ObjectState, RequestState, HoldingState, shares_of, on_semaphore, asked_of, permit_in, IsLikeObject, IsSteady}
+use Rattle.band_player.specs.Objects.{ObjectState, RequestState, HoldingState, shares_of, on_semaphore}
+use Rattle.band_player.specs.Objects.{in_mode, asked_of, permit_in, IsLikeObject, IsSteady}
 use Rattle.band_balance.specs.Rule.{Fits}
 use Rattle.band_balance.specs.Object.{is_of}
 use Rattle.band_rules.specs.Plan.{same_mode, most_readers}
@@ -28,6 +30,8 @@ use Rattle.band_rules.specs.declared.reply.Reply.TheVariants as replies
 use Rattle.band_player.specs.Names.{Updated}
 use Rattle.band_player.specs.Thing.{Thing, place_at}
 use Rattle.band_player.specs.Thing as things
+use Rattle.band_player.specs.Token.{TokenState, thing_of, count_of, IsHeld}
+use Rattle.band_player.specs.Token as tokens
 
 abbrev pub IsJoined : Stage → Type 0
 IsJoined stages.NotPolled = ⊥
@@ -38,12 +42,14 @@ IsJoined stages.Finished = ⊥
 abbrev pub FitsRequest : Option ObjectState → RequestState → Type 0
 FitsRequest None request = ⊥
 FitsRequest (Some sem) request =
-    IsJoined request.stage × (request.of ≡ sem.number) × IsOwn request.stage request.size sem.line × Fits sem.kind request.mode request.size
+    IsJoined request.stage × (request.of ≡ sem.number) × IsOwn request.stage request.size sem.line
+    × Fits sem.kind request.mode request.size
 
 -- it is held of the object at its place
 abbrev pub FitsHolding : Option ObjectState → HoldingState → Type 0
 FitsHolding None holding = ⊥
-FitsHolding (Some sem) holding = (holding.of ≡ sem.number) × (holding.count ≤ sem.held) × Fits sem.kind holding.mode holding.count
+FitsHolding (Some sem) holding = (holding.of ≡ sem.number) × (holding.count ≤ sem.held)
+    × Fits sem.kind holding.mode holding.count
 
 -- the objects know the thing
 abbrev pub IsFit : List ObjectState → Thing → Type 0
@@ -51,49 +57,62 @@ IsFit sems (things.Object place) = place < length sems
 IsFit sems (things.Request place request) = FitsRequest (slice_get sems place) request
 IsFit sems (things.Holding holding) = FitsHolding (slice_get sems holding.of) holding
 
--- the answer of a poll without the mode of what it gave
-abbrev pub permit_answer : Result (Poll HoldingState) PollError → Result (Poll Held) PollError
-permit_answer (Ok (polls.Ready holding)) = Ok (polls.Ready (permit_in holding))
-permit_answer (Ok polls.Pending) = Ok polls.Pending
-permit_answer (Err error) = Err error
+-- a request that was not polled yet, or that is in the line, of an object
+abbrev pub IsOpen : Stage → Type 0
+IsOpen stages.NotPolled = Unit {0}
+IsOpen (stages.Joined slot) = Unit {0}
+IsOpen stages.Finished = ⊥
 
--- what it gave has the mode of the request
-abbrev pub GivesIn : Mode → Result (Poll HoldingState) PollError → Type 0
-GivesIn mode (Ok (polls.Ready holding)) = holding.mode ≡ mode
-GivesIn mode (Ok polls.Pending) = Unit {0}
-GivesIn mode (Err error) = Unit {0}
+-- a token can be polled with an object: where it is a request, it is one of this object that has not ended
+abbrev pub CanPoll : ObjectState → TokenState → Type 0
+CanPoll object (tokens.Holding holding) = Unit {0}
+CanPoll object (tokens.Request request) =
+    IsOpen request.stage × (request.of ≡ object.number) × IsOwn request.stage request.size object.line
+    × Fits object.kind request.mode request.size
 
--- a poll of a request of an object, which keeps its kind and mode
-pub record PollsAs (request : RequestState) (waker : ℕ) (old : ObjectState) (result : Result (Poll HoldingState) PollError) (request' : RequestState) (new : ObjectState) : Type 0 where
-  pub polled : Polls (asked_of request) waker (shares_of old) (permit_answer result) (asked_of request') (shares_of new)
+-- it was polled before
+abbrev pub WasPolled : TokenState → Type 0
+WasPolled (tokens.Holding holding) = Unit {0}
+WasPolled (tokens.Request request) = IsJoined request.stage
+
+-- the object knows the token
+abbrev pub FitsToken : Option ObjectState → TokenState → Type 0
+FitsToken found (tokens.Request request) = FitsRequest found request
+FitsToken found (tokens.Holding holding) = FitsHolding found holding
+
+-- what a request has come to by a poll says what was answered, and what is left of the request
+abbrev pub answer_of : TokenState → Result (Poll Held) PollError
+answer_of (tokens.Holding holding) = Ok (polls.Ready (permit_in holding))
+answer_of (tokens.Request request) = Ok polls.Pending
+
+abbrev pub left_of : RequestState → TokenState → Asked
+left_of request (tokens.Holding holding) = finished (asked_of request)
+left_of request (tokens.Request left) = asked_of left
+
+abbrev pub reply_for : TokenState → Reply
+reply_for (tokens.Holding holding) = replies.Ready
+reply_for (tokens.Request request) = replies.Pending
+
+abbrev pub mode_in : TokenState → Mode
+mode_in (tokens.Holding holding) = holding.mode
+mode_in (tokens.Request request) = request.mode
+
+-- a poll of a request of an object, which keeps its kind and mode, and what the request has come to
+pub record PollsRequest (request : RequestState) (waker : ℕ) (old : ObjectState) (token : TokenState)
+    (reply : Reply)
+    (new : ObjectState) : Type 0 where
+  pub polled : Polls (asked_of request) waker (shares_of old) (answer_of token) (left_of request token)
+      (shares_of new)
   pub kind : new.kind ≡ old.kind
-  pub mode : request'.mode ≡ request.mode
-  pub gives : GivesIn request.mode result
+  pub mode : mode_in token ≡ request.mode
+  pub replied : reply ≡ reply_for token
+  pub lawful : IsSteady new
 
--- what the name is after a poll, and the reply
-abbrev pub IsAnswered : ℕ → Result (Poll HoldingState) PollError → RequestState → Thing → Reply → Type 0
-IsAnswered place (Ok (polls.Ready holding)) request thing reply = (thing ≡ things.Holding holding) × (reply ≡ replies.Ready)
-IsAnswered place (Ok polls.Pending) request thing reply = (thing ≡ things.Request place request) × (reply ≡ replies.Pending)
-IsAnswered place (Err error) request thing reply = ⊥
-
--- a poll of the request by what its object says
-pub record PollsRequest (place : ℕ) (request : RequestState) (waker : ℕ) (old : List ObjectState) (thing : Thing) (reply : Reply) (new : List ObjectState) : Type 0 where
-  pub before : ObjectState
-  pub after : ObjectState
-  pub result : Result (Poll HoldingState) PollError
-  pub left : RequestState
-  pub there : slice_get old place ≡ Some before
-  pub set : new ≡ slice_set old place after
-  pub lawful : IsSteady after
-  pub polled : PollsAs request waker before result left after
-  pub answered : IsAnswered place result left thing reply
-
-abbrev pub PollsThing : Thing → ℕ → List ObjectState → Thing → Reply → List ObjectState → Type 0
-PollsThing (things.Object place) waker old thing reply new =
-    (thing ≡ things.Object place) × (reply ≡ replies.Refused Kind) × (new ≡ old)
-PollsThing (things.Holding holding) waker old thing reply new =
-    (thing ≡ things.Holding holding) × (reply ≡ replies.Refused Finished) × (new ≡ old)
-PollsThing (things.Request place request) waker old thing reply new = PollsRequest place request waker old thing reply new
+-- what a token has come to by a poll: what is held stays, and the poll is refused
+abbrev pub PollsToken : TokenState → ℕ → ObjectState → TokenState → Reply → ObjectState → Type 0
+PollsToken (tokens.Holding holding) waker old token reply new =
+    (token ≡ tokens.Holding holding) × (reply ≡ replies.Refused Finished) × (new ≡ old)
+PollsToken (tokens.Request request) waker old token reply new = PollsRequest request waker old token reply new
 
 -- one object becomes another, in whatever order those granted are kept
 pub record Changes (place : ℕ) (old new : List ObjectState) (step : ObjectState → ObjectState) : Type 0 where
@@ -104,18 +123,10 @@ pub record Changes (place : ℕ) (old new : List ObjectState) (step : ObjectStat
   pub like : IsLikeObject (step before) after
   pub lawful : IsSteady after
 
--- a request is cancelled
-abbrev pub cancelled_at : Stage → ObjectState → ObjectState
-cancelled_at stage sem = on_semaphore (cancelled stage) sem
-
-abbrev pub DropsThing : Thing → List ObjectState → List ObjectState → Type 0
-DropsThing (things.Object place) old new = new ≡ old
-DropsThing (things.Holding holding) old new = Changes holding.of old new (on_semaphore (given_back holding.count))
-DropsThing (things.Request place request) old new = Changes place old new (cancelled_at request.stage)
-
-abbrev pub kind_at : Option ObjectState → Option object.Kind
-kind_at None = None
-kind_at (Some sem) = Some sem.kind
+-- what letting go of a token makes of its object
+abbrev pub dropped : TokenState → ObjectState → ObjectState
+dropped (tokens.Holding holding) object = on_semaphore (given_back holding.count) object
+dropped (tokens.Request request) object = on_semaphore (cancelled request.stage) object
 
 -- the object at a place has the place for its number
 abbrev pub IsNumbered : List ObjectState → ℕ → Type 0
@@ -156,15 +167,6 @@ pub record HasCount (found : Option Thing) (count : ℕ) : Type 0 where
   pub is : held_as Permit found ≡ Ok permit
   pub same : count ≡ permit.count
 
--- a poll of what a name is: the place of its object, and the reply
-pub record PollsName (name : List ℕ) (waker : ℕ) (table table' : List ℕ → Option Thing) (old new : List ObjectState) (place : ℕ) (reply : Reply) : Type 0 where
-  pub found : Thing
-  pub left : Thing
-  pub was : table name ≡ Some found
-  pub at : place ≡ place_at found
-  pub polled : PollsThing found waker old left reply new
-  pub updated : Updated table table' name (Some left)
-
 -- it is a permit of n at least
 pub record HasPermits (found : Option Thing) (n : ℕ) : Type 0 where
   pub whole : HoldingState
@@ -172,7 +174,8 @@ pub record HasPermits (found : Option Thing) (n : ℕ) : Type 0 where
   pub enough : n ≤ whole.count
 
 -- n of a permit's go to a new name
-pub record SplitsTo (name made : List ℕ) (n : ℕ) (table table' : List ℕ → Option Thing) (place : ℕ) : Type 0 where
+pub record SplitsTo (name made : List ℕ) (n : ℕ) (table table' : List ℕ → Option Thing)
+    (place : ℕ) : Type 0 where
   pub whole : HoldingState
   pub mid : List ℕ → Option Thing
   pub was : held_as Permit (table name) ≡ Ok whole
@@ -182,7 +185,8 @@ pub record SplitsTo (name made : List ℕ) (n : ℕ) (table table' : List ℕ �
   pub added : Updated mid table' made (Some (things.Holding (record whole { count = n })))
 
 -- the place of the object of two permits that can become one, or why they can't
-abbrev pub mergeable_held : List ℕ → List ℕ → Result HoldingState Refusal → Result HoldingState Refusal → Result ℕ Refusal
+abbrev pub mergeable_held : List ℕ → List ℕ → Result HoldingState Refusal → Result HoldingState Refusal
+    → Result ℕ Refusal
 mergeable_held kept spent (Err refusal) second = Err refusal
 mergeable_held kept spent (Ok first) (Err refusal) = Err refusal
 mergeable_held kept spent (Ok first) (Ok second) =
@@ -191,21 +195,23 @@ mergeable_held kept spent (Ok first) (Ok second) =
 abbrev pub mergeable : List ℕ → List ℕ → Option Thing → Option Thing → Result ℕ Refusal
 mergeable kept spent None second = Err Unknown
 mergeable kept spent (Some first) None = Err Unknown
-mergeable kept spent (Some first) (Some second) = mergeable_held kept spent (held_as Permit (Some first)) (held_as Permit (Some second))
+mergeable kept spent (Some first) (Some second) =
+    mergeable_held kept spent (held_as Permit (Some first)) (held_as Permit (Some second))
 
 -- a permit can be added to what a name is
-pub record CanGrow (found : Option Thing) (more : HoldingState) : Type 0 where
+pub record CanGrow (found : Option Thing) (more : TokenState) : Type 0 where
   pub whole : HoldingState
   pub is : held_as Permit found ≡ Ok whole
-  pub mode : more.mode ≡ Permit
-  pub same : whole.of ≡ more.of
-  pub fits : whole.count + more.count ≤ u64_max
+  pub mode : IsHeld Permit more
+  pub same : whole.of ≡ place_at (thing_of more)
+  pub fits : whole.count + count_of more ≤ u64_max
 
 -- a permit's are added to what a name is
-pub record Grows (name : List ℕ) (table table' : List ℕ → Option Thing) (more : HoldingState) : Type 0 where
+pub record Grows (name : List ℕ) (table table' : List ℕ → Option Thing) (more : TokenState) : Type 0 where
   pub whole : HoldingState
   pub was : held_as Permit (table name) ≡ Ok whole
-  pub updated : Updated table table' name (Some (things.Holding (record whole { count = whole.count + more.count })))
+  pub updated : Updated table table' name
+      (Some (things.Holding (record whole { count = whole.count + count_of more })))
 
 -- what a call asks an object for: its mode, and how much
 abbrev pub mode_of : Want → Mode
@@ -220,22 +226,19 @@ size_for wants.Lock kind = size_of kind Lock
 size_for wants.Read kind = size_of kind Read
 size_for wants.Write kind = size_of kind Write
 
--- the object at a place has the place for its number, and this can be asked of it
-abbrev pub IsOffered : List ObjectState → ℕ → Want → Type 0
-IsOffered sems place want =
-    (sem : ObjectState) → slice_get sems place ≡ Some sem → (sem.number ≡ place) × (is_of sem.kind (mode_of want) ≡ true)
+-- a new request of an object for this, and what is held of it once it was given
+abbrev pub asked_first : Want → ObjectState → RequestState
+asked_first want object = in_mode (mode_of want) (new_request object.number (size_for want object.kind))
 
--- a first poll of a new request of the object at a place
-pub record AsksFirst (place : ℕ) (want : Want) (waker : ℕ) (old : List ObjectState) (thing : Thing) (reply : Reply) (new : List ObjectState) : Type 0 where
-  pub kind : object.Kind
-  pub there : kind_at (slice_get old place) ≡ Some kind
-  pub polls : PollsRequest place (record { mode = mode_of want; of = place; size = size_for want kind; stage = stages.NotPolled }) waker old thing reply new
+abbrev pub had_of : Want → ObjectState → HoldingState
+had_of want object = record { mode = mode_of want; of = object.number; count = size_for want object.kind }
 
--- a new name is a request of the object at a place that was polled first
-pub record AsksName (name : List ℕ) (place : ℕ) (want : Want) (waker : ℕ) (table table' : List ℕ → Option Thing) (old new : List ObjectState) (reply : Reply) : Type 0 where
-  pub left : Thing
-  pub asked : AsksFirst place want waker old left reply new
-  pub updated : Updated table table' name (Some left)
+-- a new name is a request of an object that was polled first
+pub record AsksName (name : List ℕ) (want : Want) (waker : ℕ) (table table' : List ℕ → Option Thing)
+    (old new : ObjectState) (reply : Reply) : Type 0 where
+  pub left : TokenState
+  pub polled : PollsRequest (asked_first want old) waker old left reply new
+  pub updated : Updated table table' name (Some (thing_of left))
 
 -- what a call makes
 abbrev pub kind_made : New → object.Kind
@@ -269,12 +272,3 @@ make_call (news.ReaderWriter n) made = calls.Rw made n
 -- all but one of so many go back
 abbrev pub downgraded : ℕ → ObjectState → ObjectState
 downgraded count sem = on_semaphore (given_back (count - 1)) sem
-
--- what a name holds for writing it holds for reading from now on
-pub record Downgrades (name : List ℕ) (table table' : List ℕ → Option Thing) (old new : List ObjectState) (place : ℕ) : Type 0 where
-  pub writer : HoldingState
-  pub was : held_as Write (table name) ≡ Ok writer
-  pub at : place ≡ writer.of
-  pub some : 0 < writer.count
-  pub becomes : Changes writer.of old new (downgraded writer.count)
-  pub updated : Updated table table' name (Some (things.Holding (record { mode = Read; of = writer.of; count = 1 })))

@@ -26,7 +26,8 @@ abbrev pub AreSame : Names → Names → Type 0
 AreSame old new = (name : List ℕ) → thing_at new name ≡ thing_at old name
 
 -- afterwards the table has this at the name, and at every other name what it had
-pub record Updated (table table' : List ℕ → Option Thing) (name : List ℕ) (thing : Option Thing) : Type 0 where
+pub record Updated (table table' : List ℕ → Option Thing) (name : List ℕ)
+    (thing : Option Thing) : Type 0 where
   pub here : (other : List ℕ) → bytes_eq name other ≡ true → table' other ≡ thing
   pub others : (other : List ℕ) → bytes_eq name other ≡ false → table' other ≡ table other
 

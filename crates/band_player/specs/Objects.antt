@@ -1,4 +1,5 @@
--- What the player has at a place, and what its tokens are: each with the kind of its object, or with the mode of what it asks for.
+-- What the player has at a place, and what its tokens are: each with the kind of its object, or with the mode
+-- of what it asks for.
 use Rattle.std.specs.Prelude.{◌≡◌, ℕ, Option}
 use Rattle.band_balance.specs.Line.{Line}
 use Rattle.band_balance.specs.Object.{Kind, Semaphore, Mutex, ReaderWriter, Mode, Permit, Lock, Read, Write}
@@ -11,21 +12,18 @@ use Rattle.band_sem.specs.Whole.{IsWhole}
 use Rattle.band_lock.specs.ReaderWriter.{IsWholeLock}
 use Rattle.band_player.specs.declared.object.Primitive.{Primitive}
 use Rattle.band_player.specs.declared.object.Primitive.TheVariants as objects
-use Rattle.band_player.specs.declared.request.AnyRequest.{AnyRequest}
-use Rattle.band_player.specs.declared.request.AnyRequest.TheVariants as requests
-use Rattle.band_player.specs.declared.holding.AnyHolding.{AnyHolding}
-use Rattle.band_player.specs.declared.holding.AnyHolding.TheVariants as holdings
 
--- its kind, its number, its line by slots, and how much of it is held
+-- its kind, its number, its line by slots, how much of it is held, and how many debts are not paid yet
 pub record ObjectState : Type 0 where
   pub kind : Kind
   pub number : ℕ
   pub line : Line ℕ
   pub held : ℕ
+  pub debts : ℕ
 
 -- an object of a kind with the figures of a semaphore
 abbrev pub of_kind : Kind → SemaphoreState → ObjectState
-of_kind kind sem = record { kind = kind; number = sem.number; line = sem.line; held = sem.held }
+of_kind kind sem = record { kind = kind; number = sem.number; line = sem.line; held = sem.held; debts = sem.debts }
 
 abbrev pub state_of : Primitive → ObjectState
 state_of (objects.Semaphore sem) = of_kind Semaphore sem
@@ -34,7 +32,7 @@ state_of (objects.ReaderWriter lock) = of_kind (ReaderWriter lock.max) lock.shar
 
 -- the figures alone
 abbrev pub shares_of : ObjectState → SemaphoreState
-shares_of object = record { number = object.number; line = object.line; held = object.held }
+shares_of object = record { number = object.number; line = object.line; held = object.held; debts = object.debts }
 
 -- what a semaphore would become, with the kind that it has
 abbrev pub on_semaphore : (SemaphoreState → SemaphoreState) → ObjectState → ObjectState
@@ -60,12 +58,6 @@ pub record RequestState : Type 0 where
 abbrev pub in_mode : Mode → Asked → RequestState
 in_mode mode request = record { mode = mode; of = request.of; size = request.size; stage = request.stage }
 
-abbrev pub request_of : AnyRequest → RequestState
-request_of (requests.Permit request) = in_mode Permit request
-request_of (requests.Lock request) = in_mode Lock request
-request_of (requests.Read request) = in_mode Read request
-request_of (requests.Write request) = in_mode Write request
-
 abbrev pub asked_of : RequestState → Asked
 asked_of request = record { of = request.of; size = request.size; stage = request.stage }
 
@@ -77,12 +69,6 @@ pub record HoldingState : Type 0 where
 
 abbrev pub held_in : Mode → Held → HoldingState
 held_in mode permit = record { mode = mode; of = permit.of; count = permit.count }
-
-abbrev pub holding_of : AnyHolding → HoldingState
-holding_of (holdings.Permit permit) = held_in Permit permit
-holding_of (holdings.Lock permit) = held_in Lock permit
-holding_of (holdings.Read permit) = held_in Read permit
-holding_of (holdings.Write permit) = held_in Write permit
 
 abbrev pub permit_in : HoldingState → Held
 permit_in holding = record { of = holding.of; count = holding.count }

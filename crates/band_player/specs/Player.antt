@@ -7,9 +7,14 @@ use Rattle.band_balance.specs.Settled.{HeadWaits}
 use Rattle.band_rules.specs.declared.reply.Reply.{Reply}
 use Rattle.band_rules.specs.State.{State, Named, Tag}
 pub use Rattle.band_script.specs.Call.{ForReaders}
+pub use Rattle.band_sem.specs.Visits.{Pays}
 use Rattle.band_script.specs.declared.call.Call.{Call}
-use Rattle.band_script.specs.declared.call.Call.TheVariants.{Sem, Mutex, Rw, Ask, Lock, Read, Write, Poll, Drop, Try, TryLock, TryRead, TryWrite, Release, Reduce, Drain, Forget, Split, Merge, Downgrade, Status}
+use Rattle.band_script.specs.declared.call.Call.TheVariants.{Sem, Mutex, Rw, Ask, Lock, Read, Write, Poll}
+use Rattle.band_script.specs.declared.call.Call.TheVariants.{Drop, Try, TryLock, TryRead, TryWrite, Release}
+use Rattle.band_script.specs.declared.call.Call.TheVariants.{Reduce, Drain, Forget, Split, Merge, Downgrade}
+use Rattle.band_script.specs.declared.call.Call.TheVariants.{Status}
 use Rattle.band_player.specs.Kept as kept
+use Rattle.band_player.specs.Visits.{load}
 use Rattle.band_player.specs.declared.player.Player.{Player}
 
 -- the player has come to a state
@@ -20,17 +25,23 @@ StandsFor player state = kept.StandsFor player.table state
 abbrev pub wakers_left : Player → List ℕ
 wakers_left player = kept.wakes_left player.table
 
--- from each state that the player may have come to, it gives the reply and the wakers of the call's step, and comes to its state
+-- from each state that the player may have come to, it gives the reply and the wakers of the call's step, and
+-- comes to its state
 abbrev pub Follows : Call → Player → Reply → Player → Type 0
 Follows call old reply new = kept.Follows call old.table reply new.table
 
--- in each state that the player may have come to, the call does its work: it is not refused, and not answered by `none`
+-- in each state that the player may have come to, the call does its work: it is not refused, and not answered
+-- by `none`
 abbrev pub Works : Call → Player → Type 0
 Works call player = kept.Works call player.table
 
 -- it has come to what it had come to, whichever of its wakers are taken
 abbrev pub Stays : Player → Player → Type 0
 Stays old new = kept.Stays old.table new.table
+
+-- how many wait, and how many debts there are, in all lines
+abbrev pub load_of : Player → ℕ
+load_of player = load player.table.objects.items
 
 -- what is so of each object between any two calls
 pub record HasLaws (object : Object Tag) : Type 0 where
@@ -43,7 +54,8 @@ pub record HasLaws (object : Object Tag) : Type 0 where
 
 -- each object of every state that the player may have come to has them
 pub record KeepsLaws (player : Player) : Type 0 where
-  pub each : (state : State) → StandsFor player state → AllByRecursion (λ (named : Named). HasLaws named.object) state
+  pub each : (state : State) → StandsFor player state
+      → AllByRecursion (λ (named : Named). HasLaws named.object) state
 
 -- the calls that take no memory
 abbrev pub TakesNoMemory : Call → Type 0

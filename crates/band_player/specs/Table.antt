@@ -1,10 +1,11 @@
 -- How the player's table and objects stand for a state.
-use Rattle.std.specs.Prelude.{◌≡◌, ℕ, Bool, true, false, ◌==◌, ◌<◌, if◌then◌else◌, List, [], Option, Some, None, length, slice_get}
+use Rattle.std.specs.Prelude.{◌≡◌, ℕ, Bool, true, false, ◌==◌, ◌<◌, if◌then◌else◌, List, [], Option, Some}
+use Rattle.std.specs.Prelude.{None, length, slice_get}
 use Rattle.std.specs.Str.{bytes_eq}
 use Rattle.band_balance.specs.Laws.{Pairwise}
 use Rattle.band_balance.specs.Line.{Entry, Line, AreAlike, requests, total, entry_named, rename}
 use Rattle.band_balance.specs.Object.{tag}
-use Rattle.band_balance.specs.Rule.{is}
+use Rattle.band_balance.specs.Rule.{has_name}
 use Rattle.band_sem.specs.Request.{Joined}
 use Rattle.band_sem.specs.Semaphore.{is_slot}
 use Rattle.band_player.specs.Objects.{ObjectState, RequestState, IsSteady}
@@ -13,7 +14,8 @@ use Rattle.band_player.specs.Thing as things
 use Rattle.band_rules.specs.Order.{IsInOrder}
 use Rattle.band_rules.specs.State.{State, Named, Tag}
 
--- what an object of a state has under a name: whether it is its own, the request of this name, and what it holds
+-- what an object of a state has under a name: whether it is its own, the request of this name, and what it
+-- holds
 pub record Seen : Type 0 where
   pub named : Bool
   pub request : Option (Entry Tag)
@@ -22,8 +24,8 @@ pub record Seen : Type 0 where
 abbrev pub seen : List ℕ → Named → Seen
 seen name it = record {
   named = bytes_eq name it.name;
-  request = entry_named (is bytes_eq name) (requests it.object.line);
-  holding = entry_named (is bytes_eq name) it.object.held;
+  request = entry_named (has_name bytes_eq name) (requests it.object.line);
+  holding = entry_named (has_name bytes_eq name) it.object.held;
 }
 
 -- what the table has under a name, at the place that it says, and at any other
@@ -32,8 +34,10 @@ unseen = record { named = false; request = None; holding = None }
 
 abbrev pub shown_of : List ℕ → Thing → Seen
 shown_of name (things.Object place) = record unseen { named = true }
-shown_of name (things.Request place request) = record unseen { request = Some (record { name = tag request.mode name; size = request.size }) }
-shown_of name (things.Holding holding) = record unseen { holding = Some (record { name = tag holding.mode name; size = holding.count }) }
+shown_of name (things.Request place request) =
+    record unseen { request = Some (record { name = tag request.mode name; size = request.size }) }
+shown_of name (things.Holding holding) =
+    record unseen { holding = Some (record { name = tag holding.mode name; size = holding.count }) }
 
 abbrev pub shown : ℕ → List ℕ → Option Thing → Seen
 shown place name None = unseen
@@ -44,7 +48,8 @@ abbrev pub quiet : {N : Type 0} → Line N → Line N
 quiet line = record line { wakes = [] }
 
 -- a request of the table has its slot in the line of its object, and the slot its name and mode
-pub record HasSlot (tags : ℕ → Tag) (place : ℕ) (line : Line ℕ) (name : List ℕ) (request : RequestState) : Type 0 where
+pub record HasSlot (tags : ℕ → Tag) (place : ℕ) (line : Line ℕ) (name : List ℕ)
+    (request : RequestState) : Type 0 where
   pub slot : ℕ
   pub joined : request.stage ≡ Joined slot
   pub of : request.of ≡ place
@@ -52,11 +57,13 @@ pub record HasSlot (tags : ℕ → Tag) (place : ℕ) (line : Line ℕ) (name : 
   pub tagged : tags slot ≡ tag request.mode name
 
 abbrev pub HasSlotAt : (ℕ → Tag) → ℕ → Line ℕ → List ℕ → Option Thing → Type 0
-HasSlotAt tags place line name (Some (things.Request at request)) = at ≡ place → HasSlot tags place line name request
+HasSlotAt tags place line name (Some (things.Request at request)) =
+    at ≡ place → HasSlot tags place line name request
 HasSlotAt tags place line name thing = Unit {0}
 
 -- what is kept of an object stands for it, by the names of its slots
-pub record StandsAt (tags : ℕ → Tag) (table : List ℕ → Option Thing) (place : ℕ) (kept : ObjectState) (named : Named) : Type 0 where
+pub record StandsAt (tags : ℕ → Tag) (table : List ℕ → Option Thing) (place : ℕ) (kept : ObjectState)
+    (named : Named) : Type 0 where
   pub kind : named.object.kind ≡ kept.kind
   pub number : kept.number ≡ place
   pub line : AreAlike (rename tags (quiet kept.line)) named.object.line
@@ -66,9 +73,11 @@ pub record StandsAt (tags : ℕ → Tag) (table : List ℕ → Option Thing) (pl
   pub every : (name : List ℕ) → seen name named ≡ shown place name (table name)
   pub slots : (name : List ℕ) → HasSlotAt tags place kept.line name (table name)
 
-pub record StandsUnder (tags : ℕ → ℕ → Tag) (table : List ℕ → Option Thing) (kept : List ObjectState) (state : State) : Type 0 where
+pub record StandsUnder (tags : ℕ → ℕ → Tag) (table : List ℕ → Option Thing) (kept : List ObjectState)
+    (state : State) : Type 0 where
   pub order : IsInOrder state
   pub size : length kept ≡ length state
-  pub each : (place : ℕ) (object : ObjectState) (named : Named) → slice_get kept place ≡ Some object → slice_get state place ≡ Some named
+  pub each : (place : ℕ) (object : ObjectState) (named : Named) → slice_get kept place ≡ Some object
+      → slice_get state place ≡ Some named
       → StandsAt (tags place) table place object named
   pub there : (name : List ℕ) (thing : Thing) → table name ≡ Some thing → place_at thing < length kept

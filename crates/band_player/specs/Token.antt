@@ -1,15 +1,13 @@
--- What a token stands for.
-use Rattle.band_balance.specs.Object.{Permit, Lock, Read, Write}
+-- What a token is: a request, or what is held of an object.
+use Rattle.std.specs.Prelude.{◌≡◌, ℕ}
+use Rattle.band_balance.specs.Object.{Mode, Permit, Lock, Read, Write}
 use Rattle.band_sem.specs.Request.{Finished}
 use Rattle.band_player.specs.Objects.{RequestState, HoldingState, in_mode, held_in}
 use Rattle.band_player.specs.Thing.{Thing}
 use Rattle.band_player.specs.Thing as things
 use Rattle.band_player.specs.declared.token.AnyToken.{AnyToken}
 use Rattle.band_player.specs.declared.token.AnyToken.TheVariants as tokens
-use Rattle.band_player.specs.declared.token.Opened.{Opened}
-use Rattle.band_player.specs.declared.token.Opened.TheVariants as openings
 
--- a request, or what is held of an object
 pub data TokenState : Type 0 where
   Request : (request : RequestState) → TokenState
   Holding : (holding : HoldingState) → TokenState
@@ -29,12 +27,22 @@ token_of (tokens.LockRequest request) = Request (in_mode Lock request)
 token_of (tokens.ReadRequest request) = Request (in_mode Read request)
 token_of (tokens.WriteRequest request) = Request (in_mode Write request)
 
-abbrev pub opened_of : Opened → TokenState
-opened_of openings.Ended = ended
-opened_of (openings.Request request) = Request request
-opened_of (openings.Holding holding) = Holding holding
-
 -- what a name with this token is
 abbrev pub thing_of : TokenState → Thing
 thing_of (Request request) = things.Request request.of request
 thing_of (Holding holding) = things.Holding holding
+
+-- how much it asks for, or stands for
+abbrev pub count_of : TokenState → ℕ
+count_of (Request request) = request.size
+count_of (Holding holding) = holding.count
+
+-- what is held of the same object, but so much
+abbrev pub counted : ℕ → TokenState → TokenState
+counted n (Request request) = Request request
+counted n (Holding holding) = Holding (record holding { count = n })
+
+-- it is held in this mode
+abbrev pub IsHeld : Mode → TokenState → Type 0
+IsHeld mode (Request request) = ⊥
+IsHeld mode (Holding holding) = holding.mode ≡ mode

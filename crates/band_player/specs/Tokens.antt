@@ -10,4 +10,5 @@ use Rattle.band_player.specs.contracts.boxed_token.BoxedToken.{the_row as boxed_
 -- the name of a token has what is left of it, and at None nothing changes
 abbrev pub LendsToken : MutBor (BTreeMap (List ℕ) TokenState) → List ℕ → Option (MutBor TokenState) → Fml
 LendsToken tokens name token =
-    LendsSo the_row boxed_row tokens token (λ new left. IsSome (at tokens.now name) → Sets tokens.now new name (Some left)) (λ new. new ≡ tokens.now)
+    LendsSo the_row boxed_row tokens token
+    (λ new left. IsSome (at tokens.now name) → Sets tokens.now new name (Some left)) (λ new. new ≡ tokens.now)

@@ -2,11 +2,9 @@
 #![tactic(auto)]
 
 mod boxed_token;
-mod holding;
 mod names;
 mod object;
 mod player;
-mod request;
 mod table;
 mod token;
 mod tokens;

@@ -1,8 +1,7 @@
-//! The table of names: what each live name is.
+//! The names: what each live name is.
 ghost use Rattle.std.proofs.Props.{props};
 ghost use Rattle.band_player.specs.Apart.{AreApart};
 
-use crate::holding::Holding;
 use crate::object::{Object, Want};
 use crate::token::Token;
 use crate::tokens::Tokens;
@@ -16,22 +15,21 @@ use std::sync::ledger::Ledger;
 /// What each live name is: an object, by its place, or a token. An object takes no room for a token.
 pub(crate) struct Names {
     objects: BTreeMap<Name, u64>,
-    tokens: Tokens,
+    pub(crate) tokens: Tokens,
     ghost apart: { AreApart objects tokens } by { Prim.hlevel props },
 }
 
 impl Names {
-    ghost use Rattle.std.specs.Prelude.{◌≡◌, ℕ, ◌+◌, ◌-◌, ◌<◌, ◌≤◌, ◌↔◌, List, length, None, Some, Ok, Err, IsSome, IfSome, IfOk, OnOk, OnErr, IsOk, IsTrue, IfNone, MatchResult, false, option_map};
+    ghost use Rattle.std.specs.Prelude.{◌≡◌, ℕ, ◌-◌, ◌≤◌, ◌↔◌, List, None, Some, Err, IsSome, IfOk, OnOk, OnErr, IsOk, IsTrue, MatchResult, false, option_map};
     ghost use Rattle.band_balance.specs.Line.{is_served};
-    ghost use Rattle.band_balance.specs.Object.{Mode, Permit, Write};
+    ghost use Rattle.band_balance.specs.Object.{Mode, Permit, Write, is_of};
     ghost use Rattle.band_sem.specs.Semaphore.{taken};
-    ghost use Rattle.band_player.specs.Objects.{on_semaphore, IsSteady};
-    ghost use Rattle.band_balance.specs.Object.{is_of};
-    ghost use Rattle.band_player.specs.Thing.{Thing};
+    ghost use Rattle.band_sem.specs.Visits.{Pays, burden};
+    ghost use Rattle.band_player.specs.Objects.{shares_of, on_semaphore, IsSteady};
     ghost use Rattle.band_player.specs.Thing as things;
-    ghost use Rattle.band_player.specs.Token.{ended, thing_of};
+    ghost use Rattle.band_player.specs.Token.{ended, thing_of, count_of, counted, IsHeld};
     ghost use Rattle.band_player.specs.Names.{thing_at, AreSame, Updated, is_object};
-    ghost use Rattle.band_player.specs.Moves.{IsFit, AsksName, IsOffered, PollsName, mode_of, size_for, object_place, held_as, HeldAt, HasCount, HasPermits, SplitsTo, CanGrow, Grows, Downgrades};
+    ghost use Rattle.band_player.specs.Moves.{AsksName, mode_of, size_for, had_of, object_place, held_as, HeldAt, HasCount, HasPermits, SplitsTo, CanGrow, Grows};
 
     /// No name.
     pub(crate) fn new(alloc: Global) -> Names
@@ -113,7 +111,8 @@ impl Names {
     /// Adds a name that isn't live, for the object at a place.
     pub(crate) fn add_object(&mut self, name: Name, place: u64) -> Result<(), AllocError>
         requires { thing_at self.old name ≡ None }
-        ensures ok { OnOk result (Updated (thing_at self.old) (thing_at self.new) name (Some (things.Object place))) }
+        ensures ok { OnOk result (Updated (thing_at self.old) (thing_at self.new) name
+            (Some (things.Object place))) }
         ensures err { OnErr result (AreSame self.old self.new) }
     {
         match self.objects.insert(name, place) {
@@ -122,23 +121,24 @@ impl Names {
         }
     }
 
-    /// Adds a name that isn't live, for a request of the object at a place, and polls it first.
+    /// Adds a name that isn't live, for a request of an object, and polls it first.
     pub(crate) fn ask<L: Ledger>(
         &mut self,
-        objects: &mut Vec<Object>,
-        place: u64,
+        object: &mut Object,
         want: Want,
         name: Name,
         waker: Waker,
         steps: &mut Steps<L>,
     ) -> Result<Reply, AllocError>
         requires free { thing_at self.old name ≡ None }
-        requires there { place < length objects.old.items }
-        requires offered { IsOffered objects.old.items place want }
-        ensures ok { IfOk result (λ reply. AsksName name place want waker.0 (thing_at self.old) (thing_at self.new) objects.old.items objects.new.items reply) }
-        ensures err { OnErr result (AreSame self.old self.new × (objects.new.items ≡ objects.old.items)) }
+        requires offered { IsTrue (is_of object.old.kind (mode_of want)) }
+        ensures ok { IfOk result (λ reply.
+            AsksName name want waker.0 (thing_at self.old) (thing_at self.new) object.old object.new reply) }
+        ensures err { OnErr result (AreSame self.old self.new × (object.new ≡ object.old)) }
+        ensures visits { Pays (burden (shares_of object.old)) (burden (shares_of object.new))
+            steps.old steps.new }
     {
-        self.tokens.ask(objects, place, want, name, waker, steps)
+        self.tokens.ask(object, want, name, waker, steps)
     }
 
     /// Adds a name that isn't live, for what an object offers and can give without waiting.
@@ -151,8 +151,10 @@ impl Names {
         requires free { thing_at self.old name ≡ None }
         requires offered { IsTrue (is_of object.old.kind (mode_of want)) }
         requires served { IsTrue (is_served (size_for want object.old.kind) object.old.line) }
-        ensures ok { OnOk result (Updated (thing_at self.old) (thing_at self.new) name (Some (things.Holding (record { mode = mode_of want; of = object.old.number; count = size_for want object.old.kind })))) }
-        ensures taken { OnOk result (object.new ≡ on_semaphore (taken (size_for want object.old.kind)) object.old) }
+        ensures ok { OnOk result (Updated (thing_at self.old) (thing_at self.new) name
+            (Some (things.Holding (had_of want object.old)))) }
+        ensures taken { OnOk result (object.new
+            ≡ on_semaphore (taken (size_for want object.old.kind)) object.old) }
         ensures steady { OnOk result (IsSteady object.new) }
         ensures err { OnErr result (AreSame self.old self.new × (object.new ≡ object.old)) }
     {
@@ -160,12 +162,13 @@ impl Names {
     }
 
     /// Adds a name that isn't live, for `n` of a permit's.
-    fn add_part(&mut self, permit: &mut Holding, name: Name, n: u64) -> Result<(), AllocError>
+    fn add_part(&mut self, permit: &mut Token, name: Name, n: u64) -> Result<(), AllocError>
         requires free { thing_at self.old name ≡ None }
-        requires mode { permit.old.mode ≡ Permit }
-        requires enough { n ≤ permit.old.count }
-        ensures ok { OnOk result (Updated (thing_at self.old) (thing_at self.new) name (Some (things.Holding (record permit.old { count = n })))) }
-        ensures parted { OnOk result (permit.new ≡ record permit.old { count = permit.old.count - n }) }
+        requires mode { IsHeld Permit permit.old }
+        requires enough { n ≤ count_of permit.old }
+        ensures ok { OnOk result (Updated (thing_at self.old) (thing_at self.new) name
+            (Some (thing_of (counted n permit.old)))) }
+        ensures parted { OnOk result (permit.new ≡ counted (count_of permit.old - n) permit.old) }
         ensures err { OnErr result (AreSame self.old self.new × (permit.new ≡ permit.old)) }
     {
         self.tokens.add_part(permit, name, n)
@@ -175,11 +178,12 @@ impl Names {
     pub(crate) fn split(&mut self, name: &Name, made: Name, n: u64) -> Result<u64, AllocError>
         requires free { thing_at self.old made ≡ None }
         requires enough { HasPermits (thing_at self.old name.now) n }
-        ensures ok { IfOk result (λ place. SplitsTo name.now made n (thing_at self.old) (thing_at self.new) place) }
+        ensures ok { IfOk result (λ place. SplitsTo name.now made n (thing_at self.old)
+            (thing_at self.new) place) }
         ensures err { OnErr result (AreSame self.old self.new) }
     {
         let mut permit = self.take_out(name);
-        let place = permit.of();
+        let place = permit.place();
         let added = self.add_part(&mut permit, made, n);
         self.put_back(name, permit);
         added?;
@@ -187,22 +191,23 @@ impl Names {
     }
 
     /// Takes the permit with this name out of the table. A request that has ended is in its place.
-    fn take_out(&mut self, name: &Name) -> Holding
+    fn take_out(&mut self, name: &Name) -> Token
         requires { IsOk (held_as Permit (thing_at self.old name.now)) }
-        ensures permit { held_as Permit (thing_at self.old name.now) ≡ Ok result }
+        ensures permit { thing_at self.old name.now ≡ Some (thing_of result) }
+        ensures mode { IsHeld Permit result }
         ensures updated { Updated (thing_at self.old) (thing_at self.new) name.now (Some (thing_of ended)) }
     {
         let boxed = self.tokens.get_mut(name).unwrap();
-        boxed.take().into_permit()
+        boxed.take()
     }
 
-    /// Puts a permit back into the table, in the place of a request that has ended.
-    fn put_back(&mut self, name: &Name, permit: Holding)
+    /// Puts a token back into the table, in the place of a request that has ended.
+    fn put_back(&mut self, name: &Name, token: Token)
         requires { thing_at self.old name.now ≡ Some (thing_of ended) }
-        ensures { Updated (thing_at self.old) (thing_at self.new) name.now (Some (things.Holding permit)) }
+        ensures { Updated (thing_at self.old) (thing_at self.new) name.now (Some (thing_of token)) }
     {
         let boxed = self.tokens.get_mut(name).unwrap();
-        boxed.fill(Token::of_holding(permit));
+        boxed.fill(token);
     }
 
     /// Ends a name that is no object, and answers what it was.
@@ -214,61 +219,15 @@ impl Names {
         self.tokens.remove(name)
     }
 
-    /// Polls what a name is, and answers the place of its object and the reply. None where the name isn't live.
-    pub(crate) fn poll<L: Ledger>(
-        &mut self,
-        objects: &mut Vec<Object>,
-        name: &Name,
-        waker: Waker,
-        steps: &mut Steps<L>,
-    ) -> Option<(u64, Reply)>
-        requires { (thing : Thing) → thing_at self.old name.now ≡ Some thing → IsFit objects.old.items thing }
-        ensures none { IfNone result ((thing_at self.old name.now ≡ None) × (AreSame self.old self.new) × (objects.new.items ≡ objects.old.items)) }
-        ensures some { IfSome result (λ polled. PollsName name.now waker.0 (thing_at self.old) (thing_at self.new) objects.old.items objects.new.items polled.0 polled.1) }
-    {
-        match self.tokens.get_mut(name) {
-            Some(boxed) => {
-                let token = boxed.take();
-                let place = token.place();
-                let (token, reply) = token.poll(objects, waker, steps);
-                boxed.fill(token);
-                Some((place, reply))
-            }
-            None => {
-                let place = self.objects.get(name)?;
-                Some((*place, Reply::Refused(Refusal::Kind)))
-            }
-        }
-    }
-
-    /// Makes the right to write with this name one to read, and answers the place of its lock.
-    pub(crate) fn downgrade<L: Ledger>(
-        &mut self,
-        objects: &mut Vec<Object>,
-        name: &Name,
-        steps: &mut Steps<L>,
-    ) -> u64
-        requires writer { IsOk (held_as Write (thing_at self.old name.now)) }
-        requires fits { (thing : Thing) → thing_at self.old name.now ≡ Some thing → IsFit objects.old.items thing }
-        ensures { Downgrades name.now (thing_at self.old) (thing_at self.new) objects.old.items objects.new.items result }
-    {
-        let boxed = self.tokens.get_mut(name).unwrap();
-        let writer = boxed.take().into_writer();
-        let place = writer.of();
-        let reader = writer.downgrade_at(&mut objects[place as usize], steps);
-        boxed.fill(Token::of_holding(reader));
-        place
-    }
-
     /// Adds a permit to the one with this name.
-    pub(crate) fn grow(&mut self, name: &Name, more: Holding)
+    pub(crate) fn grow(&mut self, name: &Name, more: Token)
         requires { CanGrow (thing_at self.old name.now) more }
         ensures { Grows name.now (thing_at self.old) (thing_at self.new) more }
     {
         let boxed = self.tokens.get_mut(name).unwrap();
-        let mut permit = boxed.take().into_permit();
+        let mut permit = boxed.take();
         permit.join(more);
-        boxed.fill(Token::of_holding(permit));
+        boxed.fill(permit);
     }
 
     /// Loses every token.

@@ -2,8 +2,7 @@
 ghost use Rattle.std.specs.Prelude.{◌≡◌};
 ghost use Rattle.band_rules.specs.Plan.{most_readers};
 
-use crate::holding::{AnyHolding, Holding};
-use crate::request::{AnyRequest, Request};
+use crate::token::{AnyToken, Token};
 use band_base::{Steps, Waker};
 use band_lock::{MutexState, RwLockState};
 use band_sem::{ReduceError, ReleaseError, Semaphore};
@@ -56,7 +55,7 @@ fn most_readers(n: Option<u64>) -> u64
 }
 
 // A script keeps so many bytes for each object, beside its name.
-const _: () = prove!(size_of::<Object>() == 64);
+const _: () = prove!(size_of::<Object>() == 88);
 
 impl Model for Object {
     ghost use Rattle.band_player.specs.Objects.{ObjectState, state_of};
@@ -71,16 +70,17 @@ impl Object {
     ghost use Rattle.band_balance.specs.Line.{drained, overflows, owes_too_much, is_served};
     ghost use Rattle.band_balance.specs.Object.{Permit};
     ghost use Rattle.band_balance.specs.Object as kinds;
-    ghost use Rattle.band_sem.specs.Request.{new_request};
     ghost use Rattle.band_sem.specs.Semaphore.{new_state, taken, released, reduced};
-    ghost use Rattle.band_player.specs.Objects.{of_kind, shares_of, on_semaphore, in_mode, IsLikeObject, IsSteady, TakesWakeOf};
-    ghost use Rattle.band_player.specs.Moves.{mode_of, size_for, kind_made, count_made};
-    ghost use Rattle.band_balance.specs.Laws.{LetsIn};
+    ghost use Rattle.band_sem.specs.Visits.{Pays, burden};
+    ghost use Rattle.band_player.specs.Objects.{of_kind, shares_of, on_semaphore, IsLikeObject, IsSteady, TakesWakeOf};
+    ghost use Rattle.band_player.specs.Moves.{mode_of, size_for, asked_first, had_of, kind_made, count_made};
+    ghost use Rattle.band_balance.specs.Laws.{HasAShare};
     ghost use Rattle.band_balance.specs.Object.{is_of};
+    ghost use Rattle.band_player.specs.Token.{Request, Holding};
 
     /// A new object with this number.
     pub(crate) fn new(alloc: Global, number: u64, new: New) -> Object
-        requires { LetsIn (kind_made new) }
+        requires { HasAShare (kind_made new) }
         ensures start { result ≡ of_kind (kind_made new) (new_state number (count_made new)) }
         ensures steady { IsSteady result }
     {
@@ -141,20 +141,20 @@ impl Object {
     }
 
     /// A request for what it offers, not polled yet.
-    pub(crate) fn request(&self, want: Want) -> Request
+    pub(crate) fn request(&self, want: Want) -> Token
         requires { IsTrue (is_of self.now.kind (mode_of want)) }
-        ensures { result ≡ in_mode (mode_of want) (new_request self.now.number (size_for want self.now.kind)) }
+        ensures { result ≡ Request (asked_first want self.now) }
     {
         let any = match (&self.primitive, want) {
             (Primitive::Semaphore(semaphore), Want::Permits(n)) => {
-                AnyRequest::Permit(semaphore.acquire(n))
+                AnyToken::Acquire(semaphore.acquire(n))
             }
-            (Primitive::Mutex(mutex), Want::Lock) => AnyRequest::Lock(mutex.lock()),
-            (Primitive::ReaderWriter(lock), Want::Read) => AnyRequest::Read(lock.read()),
-            (Primitive::ReaderWriter(lock), Want::Write) => AnyRequest::Write(lock.write()),
+            (Primitive::Mutex(mutex), Want::Lock) => AnyToken::LockRequest(mutex.lock()),
+            (Primitive::ReaderWriter(lock), Want::Read) => AnyToken::ReadRequest(lock.read()),
+            (Primitive::ReaderWriter(lock), Want::Write) => AnyToken::WriteRequest(lock.write()),
             _ => unreachable!(),
         };
-        Request { any }
+        Token { any }
     }
 
     /// How many of its permits or shares this is.
@@ -176,24 +176,27 @@ impl Object {
     }
 
     /// Takes what it offers without waiting.
-    pub(crate) fn try_take(&mut self, want: Want) -> Option<Holding>
+    pub(crate) fn try_take(&mut self, want: Want) -> Option<Token>
         requires { IsTrue (is_of self.old.kind (mode_of want)) }
         ensures served { IsSome result ↔ IsTrue (is_served (size_for want self.old.kind) self.old.line) }
-        ensures holding { IfSome result (λ holding. holding ≡ record { mode = mode_of want; of = self.old.number; count = size_for want self.old.kind }) }
-        ensures some { OnSome result (self.new ≡ on_semaphore (taken (size_for want self.old.kind)) self.old) }
+        ensures token { IfSome result (λ token. token ≡ Holding (had_of want self.old)) }
+        ensures some { OnSome result (self.new
+            ≡ on_semaphore (taken (size_for want self.old.kind)) self.old) }
         ensures none { IfNone result (self.new ≡ self.old) }
         ensures steady { IsSteady self.new }
     {
         let any = match (&mut self.primitive, want) {
             (Primitive::Semaphore(semaphore), Want::Permits(n)) => {
-                AnyHolding::Permit(semaphore.try_acquire(n)?)
+                AnyToken::SemaphorePermit(semaphore.try_acquire(n)?)
             }
-            (Primitive::Mutex(mutex), Want::Lock) => AnyHolding::Lock(mutex.try_lock()?),
-            (Primitive::ReaderWriter(lock), Want::Read) => AnyHolding::Read(lock.try_read()?),
-            (Primitive::ReaderWriter(lock), Want::Write) => AnyHolding::Write(lock.try_write()?),
+            (Primitive::Mutex(mutex), Want::Lock) => AnyToken::LockGuard(mutex.try_lock()?),
+            (Primitive::ReaderWriter(lock), Want::Read) => AnyToken::ReadAccess(lock.try_read()?),
+            (Primitive::ReaderWriter(lock), Want::Write) => AnyToken::WriteAccess(
+                lock.try_write()?,
+            ),
             _ => unreachable!(),
         };
-        Some(Holding { any })
+        Some(Token { any })
     }
 
     /// Adds permits to a semaphore.
@@ -203,10 +206,13 @@ impl Object {
         steps: &mut Steps<L>,
     ) -> Result<(), ReleaseError>
         requires { IsTrue (is_of self.old.kind Permit) }
-        ensures overflow { IsErrOf result ReleaseError.Overflow ↔ IsTrue (overflows n self.old.line self.old.held) }
+        ensures overflow { IsErrOf result ReleaseError.Overflow
+            ↔ IsTrue (overflows n self.old.line self.old.held) }
         ensures ok { OnOk result (IsLikeObject (on_semaphore (released n) self.old) self.new) }
         ensures err { OnErr result (self.new ≡ self.old) }
         ensures steady { IsSteady self.new }
+        ensures visits { Pays (burden (shares_of self.old)) (burden (shares_of self.new))
+            steps.old steps.new }
     {
         match &mut self.primitive {
             Primitive::Semaphore(semaphore) => semaphore.release(n, steps),
@@ -225,6 +231,8 @@ impl Object {
         ensures ok { OnOk result (self.new ≡ on_semaphore (reduced n) self.old) }
         ensures err { OnErr result (self.new ≡ self.old) }
         ensures steady { IsSteady self.new }
+        ensures visits { Pays (burden (shares_of self.old)) (burden (shares_of self.new))
+            steps.old steps.new }
     {
         match &mut self.primitive {
             Primitive::Semaphore(semaphore) => semaphore.reduce_permits(n, steps),

@@ -18,13 +18,15 @@ pub struct Player {
 
 impl Player {
     ghost use Rattle.std.specs.Prelude.{◌≡◌, [], ◌∷◌, IfOk, OnErr, IsOk, MatchOption};
-    ghost use Rattle.band_player.specs.Player.{StandsFor, Follows, Works, Stays, KeepsLaws, TakesNoMemory, wakers_left};
+    ghost use Rattle.band_player.specs.Player.{StandsFor, Follows, Works, Stays, KeepsLaws, TakesNoMemory, wakers_left, load_of};
+    ghost use Rattle.band_sem.specs.Visits.{Pays};
     ghost use Rattle.band_script.specs.Call.{ForReaders};
 
     /// No name.
     pub fn new(alloc: Global) -> Player
         ensures start { StandsFor result [] }
         ensures wakers { wakers_left result ≡ [] }
+        ensures load { load_of result ≡ 0 }
     {
         Player {
             alloc,
@@ -48,6 +50,7 @@ impl Player {
         ensures works { OnErr result (Works call.now self.old) }
         ensures succeeds { TakesNoMemory call.now → IsOk result }
         ensures lawful { KeepsLaws self.new }
+        ensures visits { Pays (load_of self.old) (load_of self.new) steps.old steps.new }
     {
         self.run(call.copy(), steps)
     }
@@ -62,6 +65,7 @@ impl Player {
         ensures works { OnErr result (Works call self.old) }
         ensures succeeds { TakesNoMemory call → IsOk result }
         ensures lawful { KeepsLaws self.new }
+        ensures visits { Pays (load_of self.old) (load_of self.new) steps.old steps.new }
     {
         match call {
             Call::Sem { made, n } => self.table.make(self.alloc, made, New::Semaphore(n)),
@@ -103,6 +107,7 @@ impl Player {
             ((wakers_left self.old ≡ []) × (wakers_left self.new ≡ []))
             (λ waker. wakers_left self.old ≡ waker.0 ∷ wakers_left self.new) }
         ensures state { Stays self.old self.new }
+        ensures load { load_of self.new ≡ load_of self.old }
     {
         self.table.take_wake()
     }

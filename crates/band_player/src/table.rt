@@ -4,6 +4,8 @@ ghost use Rattle.band_script.specs.Call.{ForReaders};
 ghost use Rattle.band_script.specs.declared.call.Call.TheVariants as calls;
 ghost use Rattle.band_player.specs.Names.{thing_at};
 ghost use Rattle.band_player.specs.Moves.{mode_of, object_place, offering, mergeable, make_call, ask_call, try_call};
+ghost use Rattle.band_sem.specs.Visits.{Pays};
+ghost use Rattle.band_player.specs.Visits.{load};
 ghost use Rattle.band_player.specs.Kept.{StandsFor, IsSound, Follows, Works, Stays, wakes_left};
 
 use crate::names::Names;
@@ -23,7 +25,8 @@ pub(crate) struct Table {
 
 /// The place of the object of two permits that can become one.
 fn mergeable(names: &Names, kept: &Name, spent: &Name) -> Result<u64, Refusal>
-    ensures { result ≡ mergeable kept.now spent.now (thing_at names.now kept.now) (thing_at names.now spent.now) }
+    ensures { result ≡ mergeable kept.now spent.now (thing_at names.now kept.now)
+        (thing_at names.now spent.now) }
 {
     match (names.permit_at(kept), names.permit_at(spent)) {
         (Err(Refusal::Unknown), _) | (_, Err(Refusal::Unknown)) => Err(Refusal::Unknown),
@@ -40,6 +43,7 @@ impl Table {
         ensures sound { IsSound result }
         ensures start { StandsFor result [] }
         ensures wakes { wakes_left result ≡ [] }
+        ensures load { load result.objects.items ≡ 0 }
     {
         Table {
             names: Names::new(alloc),
@@ -51,7 +55,8 @@ impl Table {
     /// The place of the object with this name, of which this can be asked.
     fn object_for(&self, name: &Name, want: Want) -> Result<u64, Refusal>
         requires { IsSound self.now }
-        ensures { result ≡ offering (mode_of want) self.now.objects.items (object_place (thing_at self.now.names name.now)) }
+        ensures { result ≡ offering (mode_of want) self.now.objects.items
+            (object_place (thing_at self.now.names name.now)) }
     {
         let place = self.names.object_at(name)?;
         if self.objects[place as usize].offers(want) {
@@ -70,6 +75,7 @@ impl Table {
         ensures err { OnErr result (Stays self.old self.new × (wakes_left self.new ≡ [])) }
         ensures works { OnErr result (Works (make_call new made) self.old) }
         ensures sound { IsSound self.new }
+        ensures load { load self.new.objects.items ≡ load self.old.objects.items }
     {
         if self.names.is_live(&made) {
             return Ok(Reply::Refused(Refusal::Taken));
@@ -92,10 +98,13 @@ impl Table {
     ) -> Result<Reply, AllocError>
         requires sound { IsSound self.old }
         requires quiet { wakes_left self.old ≡ [] }
-        ensures follows { IfOk result (λ reply. Follows (ask_call want made of.now waker.0) self.old reply self.new) }
+        ensures follows { IfOk result (λ reply.
+            Follows (ask_call want made of.now waker.0) self.old reply self.new) }
         ensures err { OnErr result (Stays self.old self.new × (wakes_left self.new ≡ [])) }
         ensures works { OnErr result (Works (ask_call want made of.now waker.0) self.old) }
         ensures sound { IsSound self.new }
+        ensures visits { Pays (load self.old.objects.items) (load self.new.objects.items)
+            steps.old steps.new }
     {
         let place = match self.object_for(of, want) {
             Ok(place) => place,
@@ -104,8 +113,8 @@ impl Table {
         if self.names.is_live(&made) {
             return Ok(Reply::Refused(Refusal::Taken));
         }
-        let objects = &mut self.objects;
-        let reply = self.names.ask(objects, place, want, made, waker, steps)?;
+        let object = &mut self.objects[place as usize];
+        let reply = self.names.ask(object, want, made, waker, steps)?;
         self.last = place;
         Ok(reply)
     }
@@ -121,13 +130,25 @@ impl Table {
         requires quiet { wakes_left self.old ≡ [] }
         ensures follows { Follows (calls.Poll name.now waker.0) self.old result self.new }
         ensures sound { IsSound self.new }
+        ensures visits { Pays (load self.old.objects.items) (load self.new.objects.items)
+            steps.old steps.new }
     {
-        match self.names.poll(&mut self.objects, name, waker, steps) {
-            None => Reply::Refused(Refusal::Unknown),
-            Some((place, reply)) => {
+        let Some(boxed) = self.names.tokens.get_mut(name) else {
+            return match self.names.object_at(name) {
+                Ok(_) => Reply::Refused(Refusal::Kind),
+                Err(refusal) => Reply::Refused(refusal),
+            };
+        };
+        let token = boxed.take();
+        let place = token.place();
+        let object = &mut self.objects[place as usize];
+        match token.poll(object, waker, steps) {
+            Ok((token, reply)) => {
+                boxed.fill(token);
                 self.last = place;
                 reply
             }
+            Err(_) => unreachable!(),
         }
     }
 
@@ -137,6 +158,8 @@ impl Table {
         requires quiet { wakes_left self.old ≡ [] }
         ensures follows { Follows (calls.Drop name.now) self.old result self.new }
         ensures sound { IsSound self.new }
+        ensures visits { Pays (load self.old.objects.items) (load self.new.objects.items)
+            steps.old steps.new }
     {
         if self.names.is_object(name) {
             return Reply::Refused(Refusal::Kind);
@@ -144,8 +167,9 @@ impl Table {
         let Some(token) = self.names.remove(name) else {
             return Reply::Refused(Refusal::Unknown);
         };
-        self.last = token.place();
-        token.drop_from(&mut self.objects, steps);
+        let place = token.place();
+        self.last = place;
+        token.drop_to(&mut self.objects[place as usize], steps);
         Reply::Done
     }
 
@@ -157,6 +181,7 @@ impl Table {
         ensures err { OnErr result (Stays self.old self.new × (wakes_left self.new ≡ [])) }
         ensures works { OnErr result (Works (try_call want made of.now) self.old) }
         ensures sound { IsSound self.new }
+        ensures load { load self.new.objects.items ≡ load self.old.objects.items }
     {
         let place = match self.object_for(of, want) {
             Ok(place) => place,
@@ -180,6 +205,8 @@ impl Table {
         requires quiet { wakes_left self.old ≡ [] }
         ensures follows { Follows (calls.Release of.now n) self.old result self.new }
         ensures sound { IsSound self.new }
+        ensures visits { Pays (load self.old.objects.items) (load self.new.objects.items)
+            steps.old steps.new }
     {
         let place = match self.object_for(of, Want::Permits(n)) {
             Ok(place) => place,
@@ -206,6 +233,8 @@ impl Table {
         ensures err { OnErr result (Stays self.old self.new × (wakes_left self.new ≡ [])) }
         ensures works { OnErr result (Works (calls.Reduce of.now n) self.old) }
         ensures sound { IsSound self.new }
+        ensures visits { Pays (load self.old.objects.items) (load self.new.objects.items)
+            steps.old steps.new }
     {
         let place = match self.object_for(of, Want::Permits(n)) {
             Ok(place) => place,
@@ -226,6 +255,7 @@ impl Table {
         requires quiet { wakes_left self.old ≡ [] }
         ensures follows { Follows (calls.Drain of.now n) self.old result self.new }
         ensures sound { IsSound self.new }
+        ensures load { load self.new.objects.items ≡ load self.old.objects.items }
     {
         let place = match self.object_for(of, Want::Permits(n)) {
             Ok(place) => place,
@@ -262,12 +292,13 @@ impl Table {
         requires quiet { wakes_left self.old ≡ [] }
         ensures follows { Follows (calls.Forget name.now) self.old result self.new }
         ensures sound { IsSound self.new }
+        ensures load { load self.new.objects.items ≡ load self.old.objects.items }
     {
         if let Err(refusal) = self.names.permit_at(name) {
             return Reply::Refused(refusal);
         }
-        let permit = self.names.remove(name).unwrap().into_permit();
-        let place = permit.of();
+        let permit = self.names.remove(name).unwrap();
+        let place = permit.place();
         self.last = place;
         permit.forget_at(&mut self.objects[place as usize]);
         Reply::Done
@@ -277,10 +308,12 @@ impl Table {
     pub(crate) fn split(&mut self, name: &Name, made: Name, n: u64) -> Result<Reply, AllocError>
         requires sound { IsSound self.old }
         requires quiet { wakes_left self.old ≡ [] }
-        ensures follows { IfOk result (λ reply. Follows (calls.Split name.now made n) self.old reply self.new) }
+        ensures follows { IfOk result (λ reply.
+            Follows (calls.Split name.now made n) self.old reply self.new) }
         ensures err { OnErr result (Stays self.old self.new × (wakes_left self.new ≡ [])) }
         ensures works { OnErr result (Works (calls.Split name.now made n) self.old) }
         ensures sound { IsSound self.new }
+        ensures load { load self.new.objects.items ≡ load self.old.objects.items }
     {
         let permits = match self.names.permits(name) {
             Ok(permits) => permits,
@@ -302,12 +335,13 @@ impl Table {
         requires quiet { wakes_left self.old ≡ [] }
         ensures follows { Follows (calls.Merge kept.now spent.now) self.old result self.new }
         ensures sound { IsSound self.new }
+        ensures load { load self.new.objects.items ≡ load self.old.objects.items }
     {
         let place = match mergeable(&self.names, kept, spent) {
             Ok(place) => place,
             Err(refusal) => return Reply::Refused(refusal),
         };
-        let more = self.names.remove(spent).unwrap().into_permit();
+        let more = self.names.remove(spent).unwrap();
         self.names.grow(kept, more);
         self.last = place;
         Reply::Done
@@ -319,11 +353,18 @@ impl Table {
         requires quiet { wakes_left self.old ≡ [] }
         ensures follows { Follows (calls.Downgrade name.now) self.old result self.new }
         ensures sound { IsSound self.new }
+        ensures visits { Pays (load self.old.objects.items) (load self.new.objects.items)
+            steps.old steps.new }
     {
         if let Err(refusal) = self.names.writer_at(name) {
             return Reply::Refused(refusal);
         }
-        self.last = self.names.downgrade(&mut self.objects, name, steps);
+        let boxed = self.names.tokens.get_mut(name).unwrap();
+        let writer = boxed.take();
+        let place = writer.place();
+        let object = &mut self.objects[place as usize];
+        boxed.fill(writer.downgrade_at(object, steps));
+        self.last = place;
         Reply::Done
     }
 
@@ -335,6 +376,7 @@ impl Table {
             (λ waker. wakes_left self.old ≡ waker.0 ∷ wakes_left self.new) }
         ensures state { Stays self.old self.new }
         ensures sound { IsSound self.new }
+        ensures load { load self.new.objects.items ≡ load self.old.objects.items }
     {
         let last = self.last as usize;
         if last < self.objects.len() {

@@ -1,24 +1,19 @@
-//! Requests and holdings, as the table of names stores them.
-ghost use Rattle.std.specs.Prelude.{◌≡◌, ◌<◌, IsOk, IfOk, OnErr, Some, Ok, MatchResult, Err, length};
-ghost use Rattle.band_balance.specs.Object.{Permit, Write};
-ghost use Rattle.band_player.specs.Objects.{HoldingState, request_of, holding_of};
-ghost use Rattle.band_player.specs.Moves.{AsksFirst, IsOffered};
-ghost use Rattle.band_player.specs.Token as tokens;
-ghost use Rattle.band_player.specs.Token.{ended, opened_of, thing_of};
+//! A request, or what is held of an object, as the names keep it.
+ghost use Rattle.std.specs.Prelude.{◌≡◌, ◌+◌, ◌-◌, ◌<◌, ◌≤◌, IsOk, IfOk, OnErr, Some, MatchResult, Err};
+ghost use Rattle.band_balance.specs.Object.{Permit, Read, Write};
+ghost use Rattle.band_player.specs.Token.{Holding, ended, thing_of, count_of, counted, IsHeld};
 
 use crate::Reply;
-use crate::holding::{AnyHolding, Holding};
-use crate::object::{Object, Want};
-use crate::request::{AnyRequest, Request};
+use crate::object::{Object, Primitive};
 use band_base::{Poll, Steps, Waker};
 use band_lock::{LockGuard, LockRequest, ReadAccess, ReadRequest, WriteAccess, WriteRequest};
-use band_sem::{Acquire, Refusal, SemaphorePermit};
+use band_sem::{Acquire, MergeError, Refusal, SemaphorePermit};
 use std::alloc::AllocError;
 use std::marker::Model;
 use std::sync::ledger::Ledger;
 
 /// What a token is.
-enum AnyToken {
+pub(crate) enum AnyToken {
     /// A request that has ended, in the place of a token that is elsewhere.
     Ended,
     SemaphorePermit(SemaphorePermit),
@@ -31,20 +26,13 @@ enum AnyToken {
     WriteRequest(WriteRequest),
 }
 
-/// A token outside the table, for a call.
-enum Opened {
-    Ended,
-    Request(Request),
-    Holding(Holding),
-}
-
-/// What a live name is that is no object. It has one tag, where a `Request` and a `Holding` would add one each.
+/// What a live name is that is no object: a request of one, or what is held of one.
 pub(crate) struct Token {
-    any: AnyToken,
+    pub(crate) any: AnyToken,
 }
 
 // A script keeps so many bytes for each request or holding, beside its name.
-const _: () = prove!(size_of::<Token>() == 40);
+const _: () = prove!(size_of::<Token>() == 32);
 
 impl Model for Token {
     ghost use Rattle.band_player.specs.Token.{TokenState, token_of};
@@ -54,50 +42,23 @@ impl Model for Token {
     ghost view = { λ t. token_of t.any };
 }
 
-fn opened_request(any: AnyRequest) -> Opened
-    ensures { opened_of result ≡ tokens.Request (request_of any) }
+/// Adds a permit of the same semaphore.
+fn add_permit(permit: &mut SemaphorePermit, more: SemaphorePermit)
+    requires same { permit.old.of ≡ more.of }
+    requires fits { permit.old.count + more.count ≤ u64.MAX }
+    ensures { permit.new ≡ record permit.old { count = permit.old.count + more.count } }
 {
-    let request = Request { any };
-    Opened::Request(request)
-}
-
-fn opened_holding(any: AnyHolding) -> Opened
-    ensures { opened_of result ≡ tokens.Holding (holding_of any) }
-{
-    let holding = Holding { any };
-    Opened::Holding(holding)
-}
-
-/// Polls a new request of the object at a place.
-pub(crate) fn first_poll<L: Ledger>(
-    objects: &mut Vec<Object>,
-    place: u64,
-    want: Want,
-    waker: Waker,
-    steps: &mut Steps<L>,
-) -> Result<(Token, Reply), AllocError>
-    requires there { place < length objects.old.items }
-    requires offered { IsOffered objects.old.items place want }
-    ensures ok { IfOk result (λ made. AsksFirst place want waker.0 objects.old.items (thing_of made.0) made.1 objects.new.items) }
-    ensures err { OnErr result (objects.new.items ≡ objects.old.items) }
-{
-    let object = &mut objects[place as usize];
-    let mut request = object.request(want);
-    match request.poll_once(object, waker, steps) {
-        Ok(Poll::Ready(holding)) => {
-            request.lose();
-            Ok((Token::of_holding(holding), Reply::Ready))
-        }
-        Ok(Poll::Pending) => Ok((Token::of_request(request), Reply::Pending)),
-        Err(_) => {
-            request.lose();
-            Err(AllocError)
-        }
+    match permit.merge(more) {
+        Ok(()) => {}
+        Err(MergeError::OtherSemaphore(other)) => other.lose(),
     }
 }
 
 impl Token {
-    ghost use Rattle.band_player.specs.Moves.{IsFit, PollsThing, DropsThing, held_as, HeldAt};
+    ghost use Rattle.band_sem.specs.Semaphore.{forgotten};
+    ghost use Rattle.band_sem.specs.Visits.{Pays, burden};
+    ghost use Rattle.band_player.specs.Objects.{shares_of, on_semaphore, IsLikeObject, IsSteady};
+    ghost use Rattle.band_player.specs.Moves.{CanPoll, PollsToken, WasPolled, FitsToken, dropped, downgraded, held_as, HeldAt};
     ghost use Rattle.band_player.specs.Thing.{place_at};
 
     /// A request that has ended.
@@ -108,98 +69,128 @@ impl Token {
         Token { any }
     }
 
-    /// A request.
-    pub(crate) fn of_request(request: Request) -> Token
-        ensures { result ≡ tokens.Request request }
-    {
-        let Request { any } = request;
-        let any = match any {
-            AnyRequest::Permit(request) => AnyToken::Acquire(request),
-            AnyRequest::Lock(request) => AnyToken::LockRequest(request),
-            AnyRequest::Read(request) => AnyToken::ReadRequest(request),
-            AnyRequest::Write(request) => AnyToken::WriteRequest(request),
-        };
-        Token { any }
-    }
-
-    /// A permit or a guard.
-    pub(crate) fn of_holding(holding: Holding) -> Token
-        ensures { result ≡ tokens.Holding holding }
-    {
-        let Holding { any } = holding;
-        let any = match any {
-            AnyHolding::Permit(permit) => AnyToken::SemaphorePermit(permit),
-            AnyHolding::Lock(guard) => AnyToken::LockGuard(guard),
-            AnyHolding::Read(access) => AnyToken::ReadAccess(access),
-            AnyHolding::Write(access) => AnyToken::WriteAccess(access),
-        };
-        Token { any }
-    }
-
-    /// Takes it out of its one tag.
-    fn open(self) -> Opened
-        ensures { opened_of result ≡ self }
-    {
-        let Token { any } = self;
-        match any {
-            AnyToken::Ended => Opened::Ended,
-            AnyToken::SemaphorePermit(permit) => opened_holding(AnyHolding::Permit(permit)),
-            AnyToken::LockGuard(guard) => opened_holding(AnyHolding::Lock(guard)),
-            AnyToken::ReadAccess(access) => opened_holding(AnyHolding::Read(access)),
-            AnyToken::WriteAccess(access) => opened_holding(AnyHolding::Write(access)),
-            AnyToken::Acquire(request) => opened_request(AnyRequest::Permit(request)),
-            AnyToken::LockRequest(request) => opened_request(AnyRequest::Lock(request)),
-            AnyToken::ReadRequest(request) => opened_request(AnyRequest::Read(request)),
-            AnyToken::WriteRequest(request) => opened_request(AnyRequest::Write(request)),
-        }
-    }
-
-    /// Polls the request that this is. Nothing else can be polled.
+    /// Polls the request that this is. What is held can't be polled.
     pub(crate) fn poll<L: Ledger>(
         self,
-        objects: &mut Vec<Object>,
+        object: &mut Object,
         waker: Waker,
         steps: &mut Steps<L>,
-    ) -> (Token, Reply)
-        requires { IsFit objects.old.items (thing_of self) }
-        ensures { PollsThing (thing_of self) waker.0 objects.old.items (thing_of result.0) result.1 objects.new.items }
+    ) -> Result<(Token, Reply), AllocError>
+        requires { CanPoll object.old self }
+        ensures ok { IfOk result (λ polled. PollsToken self waker.0 object.old polled.0 polled.1 object.new) }
+        ensures err { OnErr result (object.new ≡ object.old) }
+        // Only a first poll wants memory.
+        ensures later { WasPolled self → IsOk result }
+        ensures visits { Pays (burden (shares_of object.old)) (burden (shares_of object.new))
+            steps.old steps.new }
     {
-        match self.open() {
-            Opened::Ended => unreachable!(),
-            Opened::Holding(holding) => {
-                let token = Token::of_holding(holding);
-                (token, Reply::Refused(Refusal::Finished))
-            }
-            Opened::Request(mut request) => {
-                let place = request.of();
-                let object = &mut objects[place as usize];
-                match request.poll_once(object, waker, steps) {
-                    Ok(Poll::Ready(holding)) => {
+        let Token { any } = self;
+        match (any, &mut object.primitive) {
+            (AnyToken::Acquire(mut request), Primitive::Semaphore(semaphore)) => {
+                match request.poll_once(semaphore, waker, steps) {
+                    Ok(Poll::Ready(permit)) => {
                         request.lose();
-                        (Token::of_holding(holding), Reply::Ready)
+                        let any = AnyToken::SemaphorePermit(permit);
+                        Ok((Token { any }, Reply::Ready))
                     }
-                    Ok(Poll::Pending) => (Token::of_request(request), Reply::Pending),
-                    Err(_) => unreachable!(),
+                    Ok(Poll::Pending) => {
+                        let any = AnyToken::Acquire(request);
+                        Ok((Token { any }, Reply::Pending))
+                    }
+                    Err(_) => {
+                        request.lose();
+                        Err(AllocError)
+                    }
                 }
             }
+            (AnyToken::LockRequest(mut request), Primitive::Mutex(mutex)) => {
+                match request.poll_once(mutex, waker, steps) {
+                    Ok(Poll::Ready(guard)) => {
+                        request.lose();
+                        let any = AnyToken::LockGuard(guard);
+                        Ok((Token { any }, Reply::Ready))
+                    }
+                    Ok(Poll::Pending) => {
+                        let any = AnyToken::LockRequest(request);
+                        Ok((Token { any }, Reply::Pending))
+                    }
+                    Err(_) => {
+                        request.lose();
+                        Err(AllocError)
+                    }
+                }
+            }
+            (AnyToken::ReadRequest(mut request), Primitive::ReaderWriter(lock)) => {
+                match request.poll_once(lock, waker, steps) {
+                    Ok(Poll::Ready(access)) => {
+                        request.lose();
+                        let any = AnyToken::ReadAccess(access);
+                        Ok((Token { any }, Reply::Ready))
+                    }
+                    Ok(Poll::Pending) => {
+                        let any = AnyToken::ReadRequest(request);
+                        Ok((Token { any }, Reply::Pending))
+                    }
+                    Err(_) => {
+                        request.lose();
+                        Err(AllocError)
+                    }
+                }
+            }
+            (AnyToken::WriteRequest(mut request), Primitive::ReaderWriter(lock)) => {
+                match request.poll_once(lock, waker, steps) {
+                    Ok(Poll::Ready(access)) => {
+                        request.lose();
+                        let any = AnyToken::WriteAccess(access);
+                        Ok((Token { any }, Reply::Ready))
+                    }
+                    Ok(Poll::Pending) => {
+                        let any = AnyToken::WriteRequest(request);
+                        Ok((Token { any }, Reply::Pending))
+                    }
+                    Err(_) => {
+                        request.lose();
+                        Err(AllocError)
+                    }
+                }
+            }
+            (any, _) => Ok((Token { any }, Reply::Refused(Refusal::Finished))),
         }
     }
 
-    /// Lets go of the request or holding that this is.
-    pub(crate) fn drop_from<L: Ledger>(self, objects: &mut Vec<Object>, steps: &mut Steps<L>)
-        requires { IsFit objects.old.items (thing_of self) }
-        ensures { DropsThing (thing_of self) objects.old.items objects.new.items }
+    /// Gives back what is held, or cancels the request.
+    pub(crate) fn drop_to<L: Ledger>(self, object: &mut Object, steps: &mut Steps<L>)
+        requires { FitsToken (Some object.old) self }
+        ensures state { IsLikeObject (dropped self object.old) object.new }
+        ensures steady { IsSteady object.new }
+        ensures visits { Pays (burden (shares_of object.old)) (burden (shares_of object.new))
+            steps.old steps.new }
     {
-        match self.open() {
-            Opened::Ended => unreachable!(),
-            Opened::Holding(holding) => {
-                let of = holding.of();
-                holding.drop_to(&mut objects[of as usize], steps);
+        let Token { any } = self;
+        match (any, &mut object.primitive) {
+            (AnyToken::SemaphorePermit(permit), Primitive::Semaphore(semaphore)) => {
+                semaphore.drop_permit(permit, steps)
             }
-            Opened::Request(request) => {
-                let place = request.of();
-                request.cancel(&mut objects[place as usize], steps);
+            (AnyToken::LockGuard(guard), Primitive::Mutex(mutex)) => mutex.drop_guard(guard, steps),
+            (AnyToken::ReadAccess(access), Primitive::ReaderWriter(lock)) => {
+                lock.drop_read(access, steps)
             }
+            (AnyToken::WriteAccess(access), Primitive::ReaderWriter(lock)) => {
+                lock.drop_write(access, steps)
+            }
+            (AnyToken::Acquire(request), Primitive::Semaphore(semaphore)) => {
+                request.cancel(semaphore, steps)
+            }
+            (AnyToken::LockRequest(request), Primitive::Mutex(mutex)) => {
+                request.cancel(mutex, steps)
+            }
+            (AnyToken::ReadRequest(request), Primitive::ReaderWriter(lock)) => {
+                request.cancel(lock, steps)
+            }
+            (AnyToken::WriteRequest(request), Primitive::ReaderWriter(lock)) => {
+                request.cancel(lock, steps)
+            }
+            _ => unreachable!(),
         }
     }
 
@@ -234,22 +225,11 @@ impl Token {
 
     /// How many permits this has.
     pub(crate) fn permits(&self) -> u64
-        requires { IsOk (held_as Permit (Some (thing_of self.now))) }
-        ensures { (permit : HoldingState) → held_as Permit (Some (thing_of self.now)) ≡ Ok permit → result ≡ permit.count }
+        requires { IsHeld Permit self.now }
+        ensures { result ≡ count_of self.now }
     {
         match &self.any {
             AnyToken::SemaphorePermit(permit) => permit.permits(),
-            _ => unreachable!(),
-        }
-    }
-
-    /// The permit of a semaphore that this is.
-    pub(crate) fn into_permit(self) -> Holding
-        requires { IsOk (held_as Permit (Some (thing_of self))) }
-        ensures { held_as Permit (Some (thing_of self)) ≡ Ok result }
-    {
-        match self.open() {
-            Opened::Holding(holding) => holding,
             _ => unreachable!(),
         }
     }
@@ -266,23 +246,89 @@ impl Token {
         }
     }
 
-    /// The right to write that this is.
-    pub(crate) fn into_writer(self) -> Holding
-        requires { IsOk (held_as Write (Some (thing_of self))) }
-        ensures { held_as Write (Some (thing_of self)) ≡ Ok result }
+    /// Ends a permit, and nothing comes back.
+    pub(crate) fn forget_at(self, object: &mut Object)
+        requires mode { IsHeld Permit self }
+        requires fits { FitsToken (Some object.old) self }
+        ensures state { object.new ≡ on_semaphore (forgotten (count_of self)) object.old }
+        ensures steady { IsSteady object.new }
     {
-        match self.open() {
-            Opened::Holding(holding) => holding,
+        let Token { any } = self;
+        match (any, &mut object.primitive) {
+            (AnyToken::SemaphorePermit(permit), Primitive::Semaphore(semaphore)) => {
+                semaphore.forget(permit)
+            }
+            (any, _) => Token { any }.lose(),
+        }
+    }
+
+    /// Makes the right to write one to read.
+    pub(crate) fn downgrade_at<L: Ledger>(self, object: &mut Object, steps: &mut Steps<L>) -> Token
+        requires mode { IsHeld Write self }
+        requires fits { FitsToken (Some object.old) self }
+        ensures some { 0 < count_of self }
+        ensures reader { result ≡ Holding (record { mode = Read; of = place_at (thing_of self); count = 1 }) }
+        ensures state { IsLikeObject (downgraded (count_of self) object.old) object.new }
+        ensures steady { IsSteady object.new }
+        ensures visits { Pays (burden (shares_of object.old)) (burden (shares_of object.new))
+            steps.old steps.new }
+    {
+        let Token { any } = self;
+        let any = match (any, &mut object.primitive) {
+            (AnyToken::WriteAccess(access), Primitive::ReaderWriter(lock)) => {
+                AnyToken::ReadAccess(lock.downgrade(access, steps))
+            }
+            (any, _) => any,
+        };
+        Token { any }
+    }
+
+    /// Takes `n` of a permit's into another one.
+    pub(crate) fn split(&mut self, n: u64) -> Token
+        requires mode { IsHeld Permit self.old }
+        requires enough { n ≤ count_of self.old }
+        ensures part { result ≡ counted n self.old }
+        ensures left { self.new ≡ counted (count_of self.old - n) self.old }
+    {
+        match &mut self.any {
+            AnyToken::SemaphorePermit(permit) => {
+                let any = AnyToken::SemaphorePermit(permit.split(n).unwrap());
+                Token { any }
+            }
             _ => unreachable!(),
+        }
+    }
+
+    /// Adds another permit of the same semaphore.
+    pub(crate) fn join(&mut self, more: Token)
+        requires mode { IsHeld Permit self.old }
+        requires more { IsHeld Permit more }
+        requires same { place_at (thing_of self.old) ≡ place_at (thing_of more) }
+        requires fits { count_of self.old + count_of more ≤ u64.MAX }
+        ensures { self.new ≡ counted (count_of self.old + count_of more) self.old }
+    {
+        let Token { any } = more;
+        match (&mut self.any, any) {
+            (AnyToken::SemaphorePermit(permit), AnyToken::SemaphorePermit(more)) => {
+                add_permit(permit, more)
+            }
+            (_, any) => Token { any }.lose(),
         }
     }
 
     /// Ends what this is and leaves it counted, for a table that ends too.
     pub(crate) fn lose(self) {
-        match self.open() {
-            Opened::Ended => {}
-            Opened::Holding(holding) => holding.lose(),
-            Opened::Request(request) => request.lose(),
+        let Token { any } = self;
+        match any {
+            AnyToken::Ended => {}
+            AnyToken::SemaphorePermit(permit) => permit.lose(),
+            AnyToken::LockGuard(guard) => guard.lose(),
+            AnyToken::ReadAccess(access) => access.lose(),
+            AnyToken::WriteAccess(access) => access.lose(),
+            AnyToken::Acquire(request) => request.lose(),
+            AnyToken::LockRequest(request) => request.lose(),
+            AnyToken::ReadRequest(request) => request.lose(),
+            AnyToken::WriteRequest(request) => request.lose(),
         }
     }
 }

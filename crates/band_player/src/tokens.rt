@@ -1,21 +1,20 @@
 //! Requests and holdings under their names. There is room for each before it is made.
-ghost use Rattle.std.specs.Prelude.{◌≡◌, ◌+◌, ◌-◌, ◌<◌, ◌≤◌, List, ℕ, length, None, Some, IfOk, OnOk, OnErr, IsTrue, is_some};
+ghost use Rattle.std.specs.Prelude.{◌≡◌, ◌-◌, ◌≤◌, List, ℕ, None, Some, IfOk, OnOk, OnErr, IsTrue, is_some};
 ghost use Rattle.std.specs.Borrow.{sem};
 ghost use Rattle.std.specs.Option.{option_copied, option_copied_mut};
 ghost use Rattle.band_balance.specs.Line.{is_served};
-ghost use Rattle.band_balance.specs.Object.{Permit};
-ghost use Rattle.band_player.specs.Apart.{at, Sets};
+ghost use Rattle.band_balance.specs.Object.{Permit, is_of};
 ghost use Rattle.band_sem.specs.Semaphore.{taken};
-ghost use Rattle.band_player.specs.Objects.{on_semaphore, IsSteady};
-ghost use Rattle.band_balance.specs.Object.{is_of};
-ghost use Rattle.band_player.specs.Token.{Holding as TheHolding, TokenState, thing_of};
-ghost use Rattle.band_player.specs.Moves.{AsksFirst, IsOffered, mode_of, size_for};
+ghost use Rattle.band_sem.specs.Visits.{Pays, burden};
+ghost use Rattle.band_player.specs.Apart.{at, Sets};
+ghost use Rattle.band_player.specs.Moves.{PollsRequest, asked_first, had_of, mode_of, size_for};
+ghost use Rattle.band_player.specs.Objects.{shares_of, on_semaphore, IsSteady};
+ghost use Rattle.band_player.specs.Token.{Holding, TokenState, count_of, counted, IsHeld};
 ghost use Rattle.band_player.specs.Tokens.{LendsToken};
 
 use crate::boxed_token::BoxedToken;
-use crate::holding::Holding;
 use crate::object::{Object, Want};
-use crate::token::{Token, first_poll};
+use crate::token::Token;
 use crate::{Name, Reply};
 use band_base::{Steps, Waker};
 use std::alloc::{AllocError, Allocator, Global};
@@ -90,29 +89,31 @@ impl Tokens {
         Some(boxed.into_token())
     }
 
-    /// Adds a name that isn't live, for a request of the object at a place, and polls it first.
+    /// Adds a name that isn't live, for a request of an object, and polls it first.
     pub(crate) fn ask<L: Ledger>(
         &mut self,
-        objects: &mut Vec<Object>,
-        place: u64,
+        object: &mut Object,
         want: Want,
         name: Name,
         waker: Waker,
         steps: &mut Steps<L>,
     ) -> Result<Reply, AllocError>
         requires free { at self.old name ≡ None }
-        requires there { place < length objects.old.items }
-        requires offered { IsOffered objects.old.items place want }
-        ensures ok { IfOk result (λ reply. (token : TokenState) × AsksFirst place want waker.0 objects.old.items (thing_of token) reply objects.new.items × Sets self.old self.new name (Some token)) }
+        requires offered { IsTrue (is_of object.old.kind (mode_of want)) }
+        ensures ok { IfOk result (λ reply. (token : TokenState)
+            × PollsRequest (asked_first want object.old) waker.0 object.old token reply object.new
+            × Sets self.old self.new name (Some token)) }
         ensures same { OnErr result ((other : List ℕ) → at self.new other ≡ at self.old other) }
-        ensures err { OnErr result (objects.new.items ≡ objects.old.items) }
+        ensures err { OnErr result (object.new ≡ object.old) }
+        ensures visits { Pays (burden (shares_of object.old)) (burden (shares_of object.new))
+            steps.old steps.new }
     {
         let room = BoxedToken::new(self.alloc)?;
         let Ok(Entry::Vacant(entry)) = self.map.entry(name) else {
             room.lose();
             return Err(AllocError);
         };
-        let (token, reply) = match first_poll(objects, place, want, waker, steps) {
+        let (token, reply) = match object.request(want).poll(object, waker, steps) {
             Ok(made) => made,
             Err(error) => {
                 // It is filled and taken out, since an entry that is let go says nothing of its map.
@@ -134,8 +135,9 @@ impl Tokens {
         requires free { at self.old name ≡ None }
         requires offered { IsTrue (is_of object.old.kind (mode_of want)) }
         requires served { IsTrue (is_served (size_for want object.old.kind) object.old.line) }
-        ensures ok { OnOk result (Sets self.old self.new name (Some (TheHolding (record { mode = mode_of want; of = object.old.number; count = size_for want object.old.kind })))) }
-        ensures taken { OnOk result (object.new ≡ on_semaphore (taken (size_for want object.old.kind)) object.old) }
+        ensures ok { OnOk result (Sets self.old self.new name (Some (Holding (had_of want object.old)))) }
+        ensures taken { OnOk result (object.new
+            ≡ on_semaphore (taken (size_for want object.old.kind)) object.old) }
         ensures steady { OnOk result (IsSteady object.new) }
         ensures same { OnErr result ((other : List ℕ) → at self.new other ≡ at self.old other) }
         ensures err { OnErr result (object.new ≡ object.old) }
@@ -145,23 +147,23 @@ impl Tokens {
             room.lose();
             return Err(AllocError);
         };
-        let holding = object.try_take(want).unwrap();
-        let _ = entry.insert(room.filled(Token::of_holding(holding)));
+        let token = object.try_take(want).unwrap();
+        let _ = entry.insert(room.filled(token));
         Ok(())
     }
 
     /// Adds a name that isn't live, for `n` of a permit's.
     pub(crate) fn add_part(
         &mut self,
-        permit: &mut Holding,
+        permit: &mut Token,
         name: Name,
         n: u64,
     ) -> Result<(), AllocError>
         requires free { at self.old name ≡ None }
-        requires mode { permit.old.mode ≡ Permit }
-        requires enough { n ≤ permit.old.count }
-        ensures ok { OnOk result (Sets self.old self.new name (Some (TheHolding (record permit.old { count = n })))) }
-        ensures parted { OnOk result (permit.new ≡ record permit.old { count = permit.old.count - n }) }
+        requires mode { IsHeld Permit permit.old }
+        requires enough { n ≤ count_of permit.old }
+        ensures ok { OnOk result (Sets self.old self.new name (Some (counted n permit.old))) }
+        ensures parted { OnOk result (permit.new ≡ counted (count_of permit.old - n) permit.old) }
         ensures same { OnErr result ((other : List ℕ) → at self.new other ≡ at self.old other) }
         ensures err { OnErr result (permit.new ≡ permit.old) }
     {
@@ -170,8 +172,8 @@ impl Tokens {
             room.lose();
             return Err(AllocError);
         };
-        let part = permit.split(n).unwrap();
-        let _ = entry.insert(room.filled(Token::of_holding(part)));
+        let part = permit.split(n);
+        let _ = entry.insert(room.filled(part));
         Ok(())
     }
 

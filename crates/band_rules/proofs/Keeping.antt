@@ -5,7 +5,7 @@ use Rattle.std.specs.Str.{bytes_eq}
 use Rattle.std.proofs.lemmas.Int.{ints}
 use Rattle.std.proofs.lemmas.Bool.{cond_both, cond-true, cond-false}
 use Rattle.band_base.specs.declared.refusal.Refusal.{Refusal}
-use Rattle.band_balance.specs.Laws.{LetsIn}
+use Rattle.band_balance.specs.Laws.{HasAShare}
 use Rattle.band_balance.specs.Object.{Object}
 use Rattle.band_balance.specs.Rule.{Rule, act, brought, removed}
 use Rattle.band_balance.proofs.Held.{by_bool}
@@ -71,10 +71,11 @@ refused_counts (calls.Drain of n) state name refusal = (refl, cond_both (bytes_e
 refused_counts call state name refusal = (cc, cc)
 
 -- The sums alone.
-chained : (before between after : ℤ) (came gone came' gone' : ℕ) → between +ℤ pos gone ≡ before +ℤ pos came → after +ℤ pos gone' ≡ between +ℤ pos came' → after +ℤ pos (gone + gone') ≡ before +ℤ pos (came + came')
+chained : (before between after : ℤ) (came gone came' gone' : ℕ) → between +ℤ pos gone ≡ before +ℤ pos came → after +ℤ pos gone' ≡ between +ℤ pos came'
+    → after +ℤ pos (gone + gone') ≡ before +ℤ pos (came + came')
 chained before between after came gone came' gone' e k = omega (arith, ints)
 
-module _ (name : List ℕ) (state : State) (is : IsInOrder state) (lets : AllByRecursion (λ (named : Named). LetsIn named.object.kind) state) (call : Call) where
+module _ (name : List ℕ) (state : State) (is : IsInOrder state) (lets : AllByRecursion (λ (named : Named). HasAShare named.object.kind) state) (call : Call) where
   abbrev Balances : Effect → Type 0
   Balances effect =
       permits_of (object_named name effect.state) +ℤ pos (removed_by name state call effect.reply) ≡ permits_of (object_named name state) +ℤ pos (brought_by name call effect.reply)
@@ -123,7 +124,7 @@ module _ (name : List ℕ) (state : State) (is : IsInOrder state) (lets : AllByR
   balances : Balances (step call state)
   balances = of_step state is call (λ plan effect. Balances effect) balances-refused balances-made (λ of rule may sound. balances-acted of rule may)
 
-kept-from : (calls : List Call) → AllByRecursion ForReaders calls → (name : List ℕ) (state : State) → IsInOrder state → AllByRecursion (λ (named : Named). LetsIn named.object.kind) state
+kept-from : (calls : List Call) → AllByRecursion ForReaders calls → (name : List ℕ) (state : State) → IsInOrder state → AllByRecursion (λ (named : Named). HasAShare named.object.kind) state
     → permits_of (object_named name (state_from state calls)) +ℤ pos (removed_from name state calls) ≡ permits_of (object_named name state) +ℤ pos (brought_from name state calls)
 kept-from [] for name state is lets = refl
 kept-from (call ∷ calls) for name state is lets =

@@ -1,5 +1,5 @@
 -- What a call plans it may do: the one walk over all calls.
-use Rattle.std.proofs.Common.{◌≡◌, ℕ, ◌<◌, ◌≤◌, pos, ◌+ℤ◌, ap, ◌∙◌, Bool, true, false, not, cond, List, ◌++◌, Option, Some, None, IfSome, ◌&&◌, ◌⊎◌, inl, inr, Ok, Err, refl, sym, subst, arith}
+use Rattle.std.proofs.Common.{◌≡◌, ℕ, ◌<◌, ◌≤◌, pos, ◌+ℤ◌, ap, ◌∙◌, Bool, true, false, not, cond, List, ◌++◌, Option, Some, None, IfSome, ◌&&◌, ◌⊎◌, inl, inr, Result, Ok, Err, refl, sym, subst, arith}
 use Rattle.std.specs.List.{AllByRecursion}
 use Rattle.std.specs.Option.{option_or}
 use Rattle.std.specs.Prelude.{IsSome}
@@ -8,11 +8,11 @@ use Rattle.std.proofs.lemmas.Bool.{ltb-true, not-false}
 use Rattle.std.proofs.lemmas.Int.{ints}
 use Rattle.band_base.specs.declared.refusal.Refusal.{Refusal}
 use Rattle.band_base.specs.declared.refusal.Refusal.TheVariants as refusals
-use Rattle.band_balance.specs.Laws.{IsWithin, LetsIn, permits}
-use Rattle.band_balance.specs.Line.{Entry, requests, entry_named, drained, is_served, u64_max}
-use Rattle.band_balance.specs.Object.{Object, Kind, Semaphore, Mutex, ReaderWriter, Mode, Permit, Lock, Read, Write, tag, is_of, size_of, new_semaphore, new_mutex, new_reader_writer, would_overflow, would_owe_too_much}
-use Rattle.band_balance.specs.Rule.{Rule, Fits, Holds, IsAllowed, act, joiner, brought, removed, size_in}
-use Rattle.band_balance.specs.Rule.{is as is_tag}
+use Rattle.band_balance.specs.Laws.{IsWithin, HasAShare, permits}
+use Rattle.band_balance.specs.Line.{Entry, requests, total, entry_named, drained, is_served, overflows, owes_too_much, u64_max}
+use Rattle.band_balance.specs.Object.{Object, Kind, Semaphore, Mutex, ReaderWriter, Mode, Permit, Lock, Read, Write, tag, is_of, size_of, new_object, size_in}
+use Rattle.band_balance.specs.Rule.{Rule, Fits, Holds, IsAllowed, act, joiner, brought, removed}
+use Rattle.band_balance.specs.Rule.{has_name as is_tag}
 use Rattle.band_balance.specs.Rule as rules
 use Rattle.band_balance.proofs.Requests.{all-found, entry_named-append}
 use Rattle.band_balance.proofs.Shares.{both_of_each}
@@ -23,7 +23,7 @@ use Rattle.band_script.specs.declared.call.Call.{Call}
 use Rattle.band_script.specs.declared.call.Call.TheVariants as calls
 use Rattle.band_rules.specs.Bounds.{HasNumbers}
 use Rattle.band_rules.specs.Order.{NamesDiffer, Sound}
-use Rattle.band_rules.specs.Plan.{Plan, Refuse, Make, Act, ◌>>=◌, object_of, object_for, asked_object, owner, same_mode, lender, if_live, if_unused, refuse_if, making, asking, trying, most_readers, plan}
+use Rattle.band_rules.specs.Plan.{Plan, Refuse, Make, Act, ◌>>=◌, object_of, object_for, asked_object, owner, same_mode, lender, is_taken, refuse_if, naming, most_readers, plan}
 use Rattle.band_rules.specs.State.{State, Named, Tag, Standing, Absent, AnObject, ARequest, AHolding, standing}
 use Rattle.band_rules.specs.declared.reply.Reply.{Reply}
 use Rattle.band_rules.specs.declared.reply.Reply.TheVariants as replies
@@ -55,7 +55,7 @@ counts_nothing call state reply to none = record {
 pub record MayMake (call : Call) (state : State) (made : List ℕ) (object : Object Tag) : Type 0 where
   pub none : AllByRecursion (IsAbsent made) state
   pub new : NewObject bytes_eq object
-  pub lets : ForReaders call → LetsIn object.kind
+  pub lets : ForReaders call → HasAShare object.kind
   pub within : HasNumbers call → IsWithin object
   pub count : ℕ
   pub made_with : permits object ≡ pos count
@@ -73,6 +73,19 @@ abbrev pub IsPlanned : Call → State → Plan → Type 0
 IsPlanned call state (Refuse refusal) = Unit {0}
 IsPlanned call state (Make made object) = MayMake call state made object
 IsPlanned call state (Act of rule) = MayAct call state of rule
+
+-- what the plans of asking and of trying are, and what refuses a name that is live, or that isn't
+abbrev if_live : Standing → Result (Unit {0}) Refusal
+if_live standing = refuse_if (not (is_taken standing)) refusals.Unknown
+
+abbrev if_unused : Standing → Result (Unit {0}) Refusal
+if_unused standing = refuse_if (is_taken standing) refusals.Taken
+
+abbrev asking : Mode → (Kind → ℕ) → List ℕ → List ℕ → ℕ → State → Plan
+asking mode size made of waker state = naming mode size made of (λ n. rules.Ask (tag mode made) n waker) state
+
+abbrev trying : Mode → (Kind → ℕ) → List ℕ → List ℕ → State → Plan
+trying mode size made of state = naming mode size made of (rules.Try (tag mode made)) state
 
 -- what holds of each refusal, and of what follows each find
 module _ (P : Plan → Type 0) (refusing : (refusal : Refusal) → P (Refuse refusal)) where
@@ -190,8 +203,8 @@ module _ (state : State) (differ : NamesDiffer state) (sound : AllByRecursion So
   uncounted : (reply : Reply) (to : List ℕ) → CountsNothing call state → Counts call state reply to 0 0
   uncounted reply to none = counts_nothing call state reply to none
 
-  good-making : (made : List ℕ) (object : Object Tag) → NewObject bytes_eq object → (ForReaders call → LetsIn object.kind) → (HasNumbers call → IsWithin object)
-      → (count : ℕ) → permits object ≡ pos count → Counts call state replies.Done made count 0 → Good (making made object state)
+  good-making : (made : List ℕ) (object : Object Tag) → NewObject bytes_eq object → (ForReaders call → HasAShare object.kind) → (HasNumbers call → IsWithin object)
+      → (count : ℕ) → permits object ≡ pos count → Counts call state replies.Done made count 0 → Good (if_unused (standing made state) >>= λ found. Make made object)
   good-making made object new lets within count made_with counts =
       for_unused Good refusing (standing made state) _
       (λ none. record { none = absent made state none; new = new; lets = lets; within = within; count = count; made_with = made_with; counts = counts })
@@ -233,19 +246,22 @@ any_size n kind offers = offers
 
 pub planned : (state : State) → NamesDiffer state → AllByRecursion Sound state → (call : Call) → IsPlanned call state (plan call state)
 planned state differ sound (calls.Sem made n) =
-    good-making state differ sound _ made (new_semaphore n) (new_semaphore_is bytes_eq n) (λ for. tt) (λ small. within_new Semaphore n (number_fits n small))
+    good-making state differ sound _ made (new_object Semaphore n) (new_semaphore_is bytes_eq n) (λ for. tt) (λ small. within_new Semaphore n (number_fits n small))
     n (all_free n) (record { brings = λ name. refl; removes = λ name. nothing (bytes_eq name made) })
 planned state differ sound (calls.Mutex made) =
-    good-making state differ sound _ made new_mutex (new_mutex_is bytes_eq) (λ for. omega arith) (λ small. within_new Mutex 1 (omega arith))
+    good-making state differ sound _ made (new_object Mutex 1) (new_mutex_is bytes_eq) (λ for. omega arith) (λ small. within_new Mutex 1 (omega arith))
     1 (all_free 1) (record { brings = λ name. refl; removes = λ name. nothing (bytes_eq name made) })
 planned state differ sound (calls.Rw made n) =
-    good-making state differ sound _ made (new_reader_writer (most_readers n)) (new_reader_writer_is bytes_eq (most_readers n)) (some_readers n made)
+    good-making state differ sound _ made (new_object (ReaderWriter (most_readers n)) (most_readers n)) (new_reader_writer_is bytes_eq (most_readers n)) (some_readers n made)
     (λ small. within_new (ReaderWriter (most_readers n)) (most_readers n) (most_fits n made small))
     (most_readers n) (all_free (most_readers n)) (record { brings = λ name. refl; removes = λ name. nothing (bytes_eq name made) })
 planned state differ sound (calls.Ask made of n waker) = good-asking state differ sound _ Permit (λ kind. n) (any_size n) refl (λ name reply. (refl, refl)) made of waker
-planned state differ sound (calls.Lock made of waker) = good-asking state differ sound _ Lock (λ kind. size_of kind Lock) (λ kind offers. (offers, refl)) refl (λ name reply. (refl, refl)) made of waker
-planned state differ sound (calls.Read made of waker) = good-asking state differ sound _ Read (λ kind. size_of kind Read) (λ kind offers. (offers, refl)) refl (λ name reply. (refl, refl)) made of waker
-planned state differ sound (calls.Write made of waker) = good-asking state differ sound _ Write (λ kind. size_of kind Write) (λ kind offers. (offers, refl)) refl (λ name reply. (refl, refl)) made of waker
+planned state differ sound (calls.Lock made of waker) = good-asking state differ sound _ Lock (λ kind. size_of kind Lock) (λ kind offers. (offers, refl)) refl
+    (λ name reply. (refl, refl)) made of waker
+planned state differ sound (calls.Read made of waker) = good-asking state differ sound _ Read (λ kind. size_of kind Read) (λ kind offers. (offers, refl)) refl
+    (λ name reply. (refl, refl)) made of waker
+planned state differ sound (calls.Write made of waker) = good-asking state differ sound _ Write (λ kind. size_of kind Write) (λ kind offers. (offers, refl)) refl
+    (λ name reply. (refl, refl)) made of waker
 planned state differ sound (calls.Try made of n) = good-trying state differ sound _ Permit (λ kind. n) (any_size n) refl (λ name reply. (refl, refl)) made of
 planned state differ sound (calls.TryLock made of) = good-trying state differ sound _ Lock (λ kind. size_of kind Lock) (λ kind offers. (offers, refl)) refl (λ name reply. (refl, refl)) made of
 planned state differ sound (calls.TryRead made of) = good-trying state differ sound _ Read (λ kind. size_of kind Read) (λ kind offers. (offers, refl)) refl (λ name reply. (refl, refl)) made of
@@ -260,21 +276,23 @@ planned state differ sound (calls.Drop name) =
     for_owner (Good state differ sound call) (refusing state differ sound call) (standing name state) _
     (λ of entry is.
     let it = stands state differ sound call name is in
-    acts state differ sound call (rules.Drop name) it.0 (some_among (is_tag bytes_eq name) (requests of.object.line) of.object.held (inl (found_some _ entry it.1))) refl tt (uncounted state differ sound call _ of.name (λ other reply. (refl, refl))))
+    acts state differ sound call (rules.Drop name) it.0 (some_among (is_tag bytes_eq name) (requests of.object.line) of.object.held (inl (found_some _ entry it.1))) refl tt
+    (uncounted state differ sound call _ of.name (λ other reply. (refl, refl))))
     (λ of entry is.
     let it = stands state differ sound call name is in
-    acts state differ sound call (rules.Drop name) it.0 (some_among (is_tag bytes_eq name) (requests of.object.line) of.object.held (inr (found_some _ entry it.1))) refl tt (uncounted state differ sound call _ of.name (λ other reply. (refl, refl))))
+    acts state differ sound call (rules.Drop name) it.0 (some_among (is_tag bytes_eq name) (requests of.object.line) of.object.held (inr (found_some _ entry it.1))) refl tt
+    (uncounted state differ sound call _ of.name (λ other reply. (refl, refl))))
 planned state differ sound (calls.Release of n) =
     let call = calls.Release of n in
     for_object (Good state differ sound call) (refusing state differ sound call) Permit (standing of state) _ (λ it is offers.
-    for_test (Good state differ sound call) (refusing state differ sound call) (would_overflow n it.object) refusals.Overflow _ (λ fits.
+    for_test (Good state differ sound call) (refusing state differ sound call) (overflows n it.object.line (total it.object.held)) refusals.Overflow _ (λ fits.
     let same = bytes_told.equal of it.name (stands state differ sound call of is).1 in
     acts state differ sound call (rules.Release n) (stands state differ sound call of is).0 (offers, fits) refl tt
     (subst (λ to. Counts call state replies.Done to n 0) same (record { brings = λ name. refl; removes = λ name. nothing (bytes_eq name of) }))))
 planned state differ sound (calls.Reduce of n) =
     let call = calls.Reduce of n in
     for_object (Good state differ sound call) (refusing state differ sound call) Permit (standing of state) _ (λ it is offers.
-    for_test (Good state differ sound call) (refusing state differ sound call) (would_owe_too_much n it.object) refusals.Debt _ (λ fits.
+    for_test (Good state differ sound call) (refusing state differ sound call) (owes_too_much n it.object.line) refusals.Debt _ (λ fits.
     let same = bytes_told.equal of it.name (stands state differ sound call of is).1 in
     acts state differ sound call (rules.Reduce n) (stands state differ sound call of is).0 (offers, fits) refl tt
     (subst (λ to. Counts call state replies.Done to 0 n) same (record { brings = λ name. nothing (bytes_eq name of); removes = λ name. refl }))))
@@ -297,7 +315,8 @@ planned state differ sound (calls.Split name made n) =
     for_unused (Good state differ sound call) (refusing state differ sound call) (standing made state) _ (λ none.
     let known = (stands state differ sound call name is).0 in
     acts state differ sound call (rules.Split name made n) known
-    (holds state differ sound call Permit name of entry is same, (all_at (IsAbsent made) known.0 (absent made state none)).fresh) refl tt (uncounted state differ sound call _ of.name (λ other reply. (refl, refl)))))
+    (holds state differ sound call Permit name of entry is same, (all_at (IsAbsent made) known.0 (absent made state none)).fresh) refl tt
+    (uncounted state differ sound call _ of.name (λ other reply. (refl, refl)))))
 planned state differ sound (calls.Merge kept spent) =
     let call = calls.Merge kept spent in
     let P = Good state differ sound call in
@@ -318,7 +337,8 @@ planned state differ sound (calls.Merge kept spent) =
 planned state differ sound (calls.Downgrade name) =
     let call = calls.Downgrade name in
     for_lender (Good state differ sound call) (refusing state differ sound call) Write (standing name state) _ (λ of entry is same.
-    acts state differ sound call (rules.Downgrade name) (stands state differ sound call name is).0 (holds state differ sound call Write name of entry is same) refl tt (uncounted state differ sound call _ of.name (λ other reply. (refl, refl))))
+    acts state differ sound call (rules.Downgrade name) (stands state differ sound call name is).0 (holds state differ sound call Write name of entry is same) refl tt
+    (uncounted state differ sound call _ of.name (λ other reply. (refl, refl))))
 planned state differ sound (calls.Status name) =
     let call = calls.Status name in
     for_object_of (Good state differ sound call) (refusing state differ sound call) (standing name state) _ (λ it is.

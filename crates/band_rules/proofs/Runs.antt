@@ -3,7 +3,7 @@ use Rattle.std.proofs.Common.{ℕ, List, [], ◌∷◌, sym, subst}
 use Rattle.std.specs.List.{AllByRecursion}
 use Rattle.std.specs.Str.{bytes_eq}
 use Rattle.band_base.specs.declared.refusal.Refusal.{Refusal}
-use Rattle.band_balance.specs.Laws.{IsWithin, LetsIn, KeepsShares, IsExclusive}
+use Rattle.band_balance.specs.Laws.{IsWithin, HasAShare, KeepsShares, IsExclusive}
 use Rattle.band_balance.specs.Object.{Object}
 use Rattle.band_balance.specs.Rule.{Rule, act}
 use Rattle.band_balance.specs.Settled.{HeadWaits}
@@ -79,22 +79,22 @@ pub heads-after : (calls : List Call) → AllByRecursion (λ (named : Named). He
 heads-after calls = all-weaker Sound _ (λ named sound. sound.head_waits) (state_after calls) (in_order-after calls).sound
 
 -- Locks let one in at least, and have all of their shares.
-pub lets-step : (state : State) → IsInOrder state → (call : Call) → ForReaders call → AllByRecursion (λ (named : Named). LetsIn named.object.kind) state
-    → AllByRecursion (λ (named : Named). LetsIn named.object.kind) (step call state).state
+pub lets-step : (state : State) → IsInOrder state → (call : Call) → ForReaders call → AllByRecursion (λ (named : Named). HasAShare named.object.kind) state
+    → AllByRecursion (λ (named : Named). HasAShare named.object.kind) (step call state).state
 lets-step =
-    each-step (λ object. LetsIn object.kind) ForReaders
-    (λ call state of rule may is. subst LetsIn (sym (kind-act bytes_eq bytes_told rule of.object may.allowed)) is)
+    each-step (λ object. HasAShare object.kind) ForReaders
+    (λ call state of rule may is. subst HasAShare (sym (kind-act bytes_eq bytes_told rule of.object may.allowed)) is)
     (λ call state made object for may. may.lets for)
 
 record Shares (object : Object Tag) : Type 0 where
-  lets : LetsIn object.kind
+  lets : HasAShare object.kind
   has : KeepsShares object
 
 shares-after : (calls : List Call) → AllByRecursion ForReaders calls → AllByRecursion (λ (named : Named). Shares named.object) (state_after calls)
 shares-after =
     each-after Shares ForReaders
     (λ call state of rule may is. record {
-      lets = subst LetsIn (sym (kind-act bytes_eq bytes_told rule of.object may.allowed)) is.lets;
+      lets = subst HasAShare (sym (kind-act bytes_eq bytes_told rule of.object may.allowed)) is.lets;
       has = shares-act bytes_eq bytes_told rule of.object may.allowed is.lets is.has;
     })
     (λ call state made object for may. record { lets = may.lets for; has = may.new.keeps_shares })
@@ -106,14 +106,14 @@ exclusive-after calls for =
 
 -- What is granted and held is within the largest count.
 record Bounded (object : Object Tag) : Type 0 where
-  lets : LetsIn object.kind
+  lets : HasAShare object.kind
   within : IsWithin object
 
 bounded-after : (calls : List Call) → AllByRecursion (λ (call : Call). ForReaders call × HasNumbers call) calls → AllByRecursion (λ (named : Named). Bounded named.object) (state_after calls)
 bounded-after =
     each-after Bounded (λ (call : Call). ForReaders call × HasNumbers call)
     (λ call state of rule may is. record {
-      lets = subst LetsIn (sym (kind-act bytes_eq bytes_told rule of.object may.allowed)) is.lets;
+      lets = subst HasAShare (sym (kind-act bytes_eq bytes_told rule of.object may.allowed)) is.lets;
       within = within-act bytes_eq bytes_told rule of.object may.allowed is.lets is.within;
     })
     (λ call state made object fine may. record { lets = may.lets fine.0; within = may.within fine.1 })

@@ -5,8 +5,8 @@ use Rattle.std.specs.Str.{bytes_eq}
 use Rattle.std.proofs.lemmas.Bool.{cond-true, cond-false, cond_both, false≢true}
 use Rattle.band_balance.specs.Line.{Entry, requests, entry_named}
 use Rattle.band_balance.specs.Object.{Object}
-use Rattle.band_balance.specs.Rule.{is, IsFresh}
-use Rattle.band_balance.specs.Rule.{is as is_tag}
+use Rattle.band_balance.specs.Rule.{has_name, IsFresh}
+use Rattle.band_balance.specs.Rule.{has_name as is_tag}
 use Rattle.band_balance.proofs.Held.{other_way}
 use Rattle.band_balance.proofs.Orderly.{pairwise-push}
 use Rattle.band_balance.proofs.Requests.{all-weaker}
@@ -41,15 +41,15 @@ same_named a b (later apart at) (later other at_other) same = same_named a b at 
 abbrev pub Found : (Named → Type 0) → List ℕ → Standing → Type 0
 Found P name Absent = Unit {0}
 Found P name (AnObject it) = P it × (bytes_eq name it.name ≡ true)
-Found P name (ARequest of entry) = P of × (entry_named (is bytes_eq name) (requests of.object.line) ≡ Some entry)
-Found P name (AHolding of entry) = P of × (entry_named (is bytes_eq name) of.object.held ≡ Some entry)
+Found P name (ARequest of entry) = P of × (entry_named (has_name bytes_eq name) (requests of.object.line) ≡ Some entry)
+Found P name (AHolding of entry) = P of × (entry_named (has_name bytes_eq name) of.object.held ≡ Some entry)
 
 pub found : (P : Named → Type 0) (name : List ℕ) (state : State) → AllByRecursion P state → Found P name (standing name state)
 found P name [] each = tt
 found P name (first ∷ rest) each = go (found P name rest each.1) (bytes_eq name first.name) refl _ refl _ refl
   where
-    go : Found P name (standing name rest) → (b : Bool) → bytes_eq name first.name ≡ b → (request : Option (Entry Tag)) → entry_named (is bytes_eq name) (requests first.object.line) ≡ request
-        → (holding : Option (Entry Tag)) → entry_named (is bytes_eq name) first.object.held ≡ holding → Found P name (standing_at first b request holding (standing name rest))
+    go : Found P name (standing name rest) → (b : Bool) → bytes_eq name first.name ≡ b → (request : Option (Entry Tag)) → entry_named (has_name bytes_eq name) (requests first.object.line) ≡ request
+        → (holding : Option (Entry Tag)) → entry_named (has_name bytes_eq name) first.object.held ≡ holding → Found P name (standing_at first b request holding (standing name rest))
     go elsewhere true is request there holding also = (each.0, is)
     go elsewhere false is (Some entry) there holding also = (each.0, there)
     go elsewhere false is None there (Some entry) also = (each.0, also)
@@ -64,7 +64,8 @@ pub absent : (name : List ℕ) (state : State) → standing name state ≡ Absen
 absent name [] is = tt
 absent name (first ∷ rest) is = go (absent name rest) (bytes_eq name first.name) refl _ refl _ refl is
   where
-    go : (standing name rest ≡ Absent → AllByRecursion (IsAbsent name) rest) → (b : Bool) → bytes_eq name first.name ≡ b → (request : Option (Entry Tag)) → entry_named (is_tag bytes_eq name) (requests first.object.line) ≡ request
+    go : (standing name rest ≡ Absent → AllByRecursion (IsAbsent name) rest) → (b : Bool) → bytes_eq name first.name ≡ b → (request : Option (Entry Tag))
+        → entry_named (is_tag bytes_eq name) (requests first.object.line) ≡ request
         → (holding : Option (Entry Tag)) → entry_named (is_tag bytes_eq name) first.object.held ≡ holding → standing_at first b request holding (standing name rest) ≡ Absent
         → AllByRecursion (IsAbsent name) (first ∷ rest)
     go rests true apart request there holding also none = cc
@@ -74,7 +75,8 @@ absent name (first ∷ rest) is = go (absent name rest) (bytes_eq name first.nam
 
 -- Another object under a name that one has.
 module _ (name : List ℕ) (object : Object Tag) where
-  pub all-with_object : (P : Named → Type 0) (state : State) → AllByRecursion P state → ((named : Named) → P named → P (record named { object = object })) → AllByRecursion P (with_object name object state)
+  pub all-with_object : (P : Named → Type 0) (state : State) → AllByRecursion P state → ((named : Named) → P named → P (record named { object = object }))
+      → AllByRecursion P (with_object name object state)
   all-with_object P [] each changes = tt
   all-with_object P (first ∷ rest) each changes =
       cond_both (bytes_eq name first.name) _ _ (AllByRecursion P) (λ h. (changes first each.0, each.1)) (λ h. (each.0, all-with_object P rest each.1 changes))
@@ -95,7 +97,8 @@ pub with_object_later : (named first : Named) (object : Object Tag) (rest : Stat
 with_object_later named first object rest apart = cond-false (bytes_eq named.name first.name) _ _ apart
 
 -- a new object under a name that is absent
-pub names_differ-push : (state : State) (made : List ℕ) (object : Object Tag) → NamesDiffer state → AllByRecursion (IsAbsent made) state → NamesDiffer (state ++ record { name = made; object = object } ∷ [])
+pub names_differ-push : (state : State) (made : List ℕ) (object : Object Tag) → NamesDiffer state → AllByRecursion (IsAbsent made) state
+    → NamesDiffer (state ++ record { name = made; object = object } ∷ [])
 names_differ-push state made object differ none =
     pairwise-push _ state (record { name = made; object = object }) differ
     (all-weaker (IsAbsent made) (λ (named : Named). bytes_eq named.name made ≡ false) (λ named gone. other_way bytes_eq bytes_told made named.name gone.apart) state none)

@@ -6,7 +6,7 @@ use Rattle.std.proofs.lemmas.Bool.{cond-true, cond-false}
 use Rattle.band_balance.specs.Laws.{Pairwise}
 use Rattle.band_balance.specs.Line.{Entry, requests, entry_of}
 use Rattle.band_balance.specs.Object.{Object}
-use Rattle.band_balance.specs.Rule.{Rule, is, IsFresh, joiner, act}
+use Rattle.band_balance.specs.Rule.{Rule, has_name, IsFresh, joiner, act}
 use Rattle.band_balance.proofs.Fronts.{each_always, pairwise-cross, unmapped}
 use Rattle.band_balance.proofs.Held.{other_way}
 use Rattle.band_balance.proofs.Orderly.{pairwise-weaker, pairwise-by, all-by}
@@ -54,12 +54,16 @@ in_turn-others : (who : Option (List ℕ)) (number : List ℕ → ℕ) (now : �
     → InTurn (renumbered who now number) now object
 in_turn-others None number now object fresh turn = record { rising = turn.rising; below = turn.below }
 in_turn-others (Some name) number now object fresh turn = record {
-  rising = pairwise-weaker (λ (e : Entry Tag). bytes_eq e.name.name name ≡ false) _ (λ (a b : Entry Tag). renumbered (Some name) now number a.name.name < renumbered (Some name) now number b.name.name) (λ a b x y less. rw (cond-false _ now (number a.name.name) x, cond-false _ now (number b.name.name) y) less) (requests object.line) others turn.rising;
-  below = both_of_each _ _ (λ (e : Entry Tag). renumbered (Some name) now number e.name.name < now) (λ (e : Entry Tag) x less. rw (cond-false _ now (number e.name.name) x) less) (requests object.line) others turn.below;
+  rising = pairwise-weaker (λ (e : Entry Tag). bytes_eq e.name.name name ≡ false) _
+      (λ (a b : Entry Tag). renumbered (Some name) now number a.name.name < renumbered (Some name) now number b.name.name)
+      (λ a b x y less. rw (cond-false _ now (number a.name.name) x, cond-false _ now (number b.name.name) y) less) (requests object.line) others turn.rising;
+  below = both_of_each _ _ (λ (e : Entry Tag). renumbered (Some name) now number e.name.name < now) (λ (e : Entry Tag) x less. rw (cond-false _ now (number e.name.name) x) less)
+      (requests object.line) others turn.below;
 }
   where
     others : AllByRecursion (λ (e : Entry Tag). bytes_eq e.name.name name ≡ false) (requests object.line)
-    others = all-weaker _ _ (λ (e : Entry Tag) apart. other_way bytes_eq bytes_told name e.name.name apart) (requests object.line) (all-not_named (is bytes_eq name) (requests object.line) fresh.asked)
+    others = all-weaker _ _ (λ (e : Entry Tag) apart. other_way bytes_eq bytes_told name e.name.name apart) (requests object.line)
+        (all-not_named (has_name bytes_eq name) (requests object.line) fresh.asked)
 
 -- and it joins after them
 in_turn-act : (number : List ℕ → ℕ) (now : ℕ) (call : Call) (state : State) (of : Named) (rule : Rule (List ℕ)) → MayAct call state of rule
@@ -68,7 +72,8 @@ in_turn-act number now call state of rule may is =
     let queues = queues-act bytes_eq bytes_told rule of.object may.allowed in
     let wider = in_turn-later (renumbered (joiner rule of.object) now number) now of.object is in
     record {
-      rising = pairwise-by bytes_eq of.object (λ a b. renumbered (joiner rule of.object) now number a < renumbered (joiner rule of.object) now number b) queues is.rising (last (joiner rule of.object) is.below);
+      rising = pairwise-by bytes_eq of.object (λ a b. renumbered (joiner rule of.object) now number a < renumbered (joiner rule of.object) now number b) queues is.rising
+          (last (joiner rule of.object) is.below);
       below = all-by bytes_eq of.object (λ name. renumbered (joiner rule of.object) now number name < now + 1) queues wider.below (newest (joiner rule of.object));
     }
   where
@@ -118,5 +123,6 @@ stand-after calls = all-weaker _ _ (λ named turn. turn.rising) (state_after cal
 
 pub granted-after : (calls : List Call) → AllByRecursion (λ (named : Named). GrantedInTurn calls named.object.line) (state_after calls)
 granted-after calls =
-    all-weaker _ _ (λ (named : Named) turn. unmapped entry_of _ named.object.line.waiting (pairwise-cross _ named.object.line.granted (map entry_of named.object.line.waiting) turn)) (state_after calls)
+    all-weaker _ _ (λ (named : Named) turn. unmapped entry_of _ named.object.line.waiting (pairwise-cross _ named.object.line.granted (map entry_of named.object.line.waiting) turn))
+    (state_after calls)
     (stand-after calls)

@@ -19,11 +19,13 @@ abbrev pub joins : List ℕ → Plan → Bool
 joins name (Act of rule) = is_joiner name (joiner rule of.object)
 joins name plan = false
 
--- the number of the last call at which a name joined a line, where the next call has the number `now`, and `last` is the one so far
+-- the number of the last call at which a name joined a line, where the next call has the number `now`, and
+-- `last` is the one so far
 abbrev pub joined_from : List ℕ → ℕ → ℕ → State → List Call → ℕ
 joined_from name last now state [] = last
 joined_from name last now state (call ∷ calls) =
-    joined_from name (if joins name (plan call state) then now else last) (now + 1) (step call state).state calls
+    joined_from name (if joins name (plan call state) then now else last) (now + 1)
+    (step call state).state calls
 
 -- the same over a script, from 1; 0 where it joined none
 abbrev pub joined_at : List ℕ → List Call → ℕ
@@ -31,9 +33,12 @@ joined_at name calls = joined_from name 0 1 [] calls
 
 -- those in a line stand in the order in which they joined it, those that were granted first
 abbrev pub StandInTurn : List Call → Line Tag → Type 0
-StandInTurn calls line = Pairwise (λ (a b : Entry Tag). joined_at a.name.name calls < joined_at b.name.name calls) (requests line)
+StandInTurn calls line =
+    Pairwise (λ (a b : Entry Tag). joined_at a.name.name calls < joined_at b.name.name calls) (requests line)
 
 -- so each that waits joined it after each that was granted from it
 abbrev pub GrantedInTurn : List Call → Line Tag → Type 0
 GrantedInTurn calls line =
-    AllByRecursion (λ (waits : Waiting Tag). AllByRecursion (λ (granted : Entry Tag). joined_at granted.name.name calls < joined_at waits.name.name calls) line.granted) line.waiting
+    AllByRecursion (λ (waits : Waiting Tag).
+    AllByRecursion (λ (granted : Entry Tag). joined_at granted.name.name calls < joined_at waits.name.name calls)
+    line.granted) line.waiting

@@ -1,4 +1,5 @@
--- Permits are kept: what an object was made with and what was released to it is what is free, granted and held of it, and what
+-- Permits are kept: what an object was made with and what was released to it is what is free, granted and
+-- held of it, and what
 -- was reduced, drained and forgotten. Each call is counted by its reply.
 use Rattle.std.specs.Prelude.{ℕ, ◌+◌, if◌then◌else◌, List, [], ◌∷◌, Option, Some, None, ℤ, pos}
 use Rattle.std.specs.Str.{bytes_eq}
@@ -15,7 +16,8 @@ use Rattle.band_rules.specs.Step.{step}
 -- the object with this name
 abbrev pub object_named : List ℕ → State → Option (Object Tag)
 object_named name [] = None
-object_named name (first ∷ rest) = if bytes_eq name first.name then Some first.object else object_named name rest
+object_named name (first ∷ rest) =
+    if bytes_eq name first.name then Some first.object else object_named name rest
 
 -- its permits or shares: those that are free, less what is owed, and those granted and held
 abbrev pub permits_of : Option (Object Tag) → ℤ

@@ -1,16 +1,22 @@
--- What a call comes to in a state: it is refused, it makes an object, or it does a rule to one. The refusals are tested in the
+-- What a call comes to in a state: it is refused, it makes an object, or it does a rule to one. The refusals
+-- are tested in the
 -- order of the lines: unknown, kind, same, taken, finished, other, overflow, debt.
-use Rattle.std.specs.Prelude.{ℕ, ◌-◌, ◌^◌, Bool, true, false, not, if◌then◌else◌, List, Option, Some, None, Result, Ok, Err}
+use Rattle.std.specs.Prelude.{ℕ, ◌-◌, ◌^◌, Bool, true, false, not, if◌then◌else◌, List, Option, Some, None}
+use Rattle.std.specs.Prelude.{Result, Ok, Err}
 use Rattle.std.specs.Str.{bytes_eq}
 use Rattle.band_base.specs.declared.refusal.Refusal.{Refusal}
-use Rattle.band_base.specs.declared.refusal.Refusal.TheVariants.{Unknown, Kind, Same, Taken, Finished, Other, Overflow, Debt}
-use Rattle.band_balance.specs.Object.{Object, Mode, Permit, Lock, Read, Write, tag, is_of, size_of, new_semaphore, new_mutex, new_reader_writer, would_overflow, would_owe_too_much}
+use Rattle.band_base.specs.declared.refusal.Refusal.TheVariants.{Unknown, Kind, Same, Taken, Finished, Other}
+use Rattle.band_base.specs.declared.refusal.Refusal.TheVariants.{Overflow, Debt}
+use Rattle.band_balance.specs.Line.{total, overflows, owes_too_much}
+use Rattle.band_balance.specs.Object.{Object, Mode, Permit, Lock, Read, Write, tag, is_of, size_of}
+use Rattle.band_balance.specs.Object.{new_object}
 use Rattle.band_balance.specs.Object as objects
 use Rattle.band_balance.specs.Rule.{Rule}
 use Rattle.band_balance.specs.Rule as rules
 use Rattle.band_script.specs.declared.call.Call.{Call}
 use Rattle.band_script.specs.declared.call.Call.TheVariants as calls
-use Rattle.band_rules.specs.State.{State, Named, Tag, Standing, Absent, AnObject, ARequest, AHolding, standing}
+use Rattle.band_rules.specs.State.{State, Named, Tag, Standing, Absent, AnObject, ARequest, AHolding}
+use Rattle.band_rules.specs.State.{standing}
 
 pub data Plan : Type 0 where
   Refuse : (refusal : Refusal) → Plan
@@ -65,38 +71,22 @@ lender mode (AnObject it) = Err Kind
 lender mode (ARequest of entry) = Err Kind
 lender mode (AHolding of entry) = if same_mode mode entry.name.mode then Ok of else Err Kind
 
--- where a name is live, and where it isn't
-abbrev pub if_live : Standing → Result (Unit {0}) Refusal
-if_live Absent = Err Unknown
-if_live standing = Ok tt
-
-abbrev pub if_unused : Standing → Result (Unit {0}) Refusal
-if_unused Absent = Ok tt
-if_unused standing = Err Taken
+-- what a name is stands for something
+abbrev pub is_taken : Standing → Bool
+is_taken Absent = false
+is_taken standing = true
 
 -- where the test fails
 abbrev pub refuse_if : Bool → Refusal → Result (Unit {0}) Refusal
 refuse_if true refusal = Err refusal
 refuse_if false refusal = Ok tt
 
--- a new object under a name that isn't live
-abbrev pub making : List ℕ → Object Tag → State → Plan
-making made object state = do
-  _ ← if_unused (standing made state)
-  Make made object
-
--- a request of an object of which this is asked, for so much by its kind
-abbrev pub asking : Mode → (objects.Kind → ℕ) → List ℕ → List ℕ → ℕ → State → Plan
-asking mode size made of waker state = do
+-- a rule on an object of which this is asked, for so much by its kind, under a name that isn't live
+abbrev pub naming : Mode → (objects.Kind → ℕ) → List ℕ → List ℕ → (ℕ → Rule (List ℕ)) → State → Plan
+naming mode size made of rule state = do
   one ← object_for mode (standing of state)
-  _ ← if_unused (standing made state)
-  Act one (rules.Ask (tag mode made) (size one.object.kind) waker)
-
-abbrev pub trying : Mode → (objects.Kind → ℕ) → List ℕ → List ℕ → State → Plan
-trying mode size made of state = do
-  one ← object_for mode (standing of state)
-  _ ← if_unused (standing made state)
-  Act one (rules.Try (tag mode made) (size one.object.kind))
+  _ ← refuse_if (is_taken (standing made state)) Taken
+  Act one (rule (size one.object.kind))
 
 -- the most readers at a time, where a call doesn't say
 abbrev pub most_readers : Option ℕ → ℕ
@@ -104,30 +94,44 @@ most_readers None = 2 ^ 63 - 1
 most_readers (Some n) = n
 
 abbrev pub plan : Call → State → Plan
-plan (calls.Sem made n) state = making made (new_semaphore n) state
-plan (calls.Mutex made) state = making made new_mutex state
-plan (calls.Rw made n) state = making made (new_reader_writer (most_readers n)) state
-plan (calls.Ask made of n waker) state = asking Permit (λ kind. n) made of waker state
-plan (calls.Lock made of waker) state = asking Lock (λ kind. size_of kind Lock) made of waker state
-plan (calls.Read made of waker) state = asking Read (λ kind. size_of kind Read) made of waker state
-plan (calls.Write made of waker) state = asking Write (λ kind. size_of kind Write) made of waker state
+plan (calls.Sem made n) state = do
+  _ ← refuse_if (is_taken (standing made state)) Taken
+  Make made (new_object objects.Semaphore n)
+plan (calls.Mutex made) state = do
+  _ ← refuse_if (is_taken (standing made state)) Taken
+  Make made (new_object objects.Mutex 1)
+plan (calls.Rw made n) state = do
+  _ ← refuse_if (is_taken (standing made state)) Taken
+  Make made (new_object (objects.ReaderWriter (most_readers n)) (most_readers n))
+plan (calls.Ask made of n waker) state =
+    naming Permit (λ kind. n) made of (λ n. rules.Ask (tag Permit made) n waker) state
+plan (calls.Lock made of waker) state =
+    naming Lock (λ kind. size_of kind Lock) made of (λ n. rules.Ask (tag Lock made) n waker) state
+plan (calls.Read made of waker) state =
+    naming Read (λ kind. size_of kind Read) made of (λ n. rules.Ask (tag Read made) n waker) state
+plan (calls.Write made of waker) state =
+    naming Write (λ kind. size_of kind Write) made of (λ n. rules.Ask (tag Write made) n waker) state
 plan (calls.Poll name waker) state = do
   of ← asked_object (standing name state)
   Act of (rules.Poll name waker)
 plan (calls.Drop name) state = do
   of ← owner (standing name state)
   Act of (rules.Drop name)
-plan (calls.Try made of n) state = trying Permit (λ kind. n) made of state
-plan (calls.TryLock made of) state = trying Lock (λ kind. size_of kind Lock) made of state
-plan (calls.TryRead made of) state = trying Read (λ kind. size_of kind Read) made of state
-plan (calls.TryWrite made of) state = trying Write (λ kind. size_of kind Write) made of state
+plan (calls.Try made of n) state =
+    naming Permit (λ kind. n) made of (rules.Try (tag Permit made)) state
+plan (calls.TryLock made of) state =
+    naming Lock (λ kind. size_of kind Lock) made of (rules.Try (tag Lock made)) state
+plan (calls.TryRead made of) state =
+    naming Read (λ kind. size_of kind Read) made of (rules.Try (tag Read made)) state
+plan (calls.TryWrite made of) state =
+    naming Write (λ kind. size_of kind Write) made of (rules.Try (tag Write made)) state
 plan (calls.Release of n) state = do
   one ← object_for Permit (standing of state)
-  _ ← refuse_if (would_overflow n one.object) Overflow
+  _ ← refuse_if (overflows n one.object.line (total one.object.held)) Overflow
   Act one (rules.Release n)
 plan (calls.Reduce of n) state = do
   one ← object_for Permit (standing of state)
-  _ ← refuse_if (would_owe_too_much n one.object) Debt
+  _ ← refuse_if (owes_too_much n one.object.line) Debt
   Act one (rules.Reduce n)
 plan (calls.Drain of n) state = do
   one ← object_for Permit (standing of state)
@@ -137,11 +141,11 @@ plan (calls.Forget name) state = do
   Act of (rules.Forget name)
 plan (calls.Split name made n) state = do
   of ← lender Permit (standing name state)
-  _ ← if_unused (standing made state)
+  _ ← refuse_if (is_taken (standing made state)) Taken
   Act of (rules.Split name made n)
 plan (calls.Merge kept spent) state = do
-  _ ← if_live (standing kept state)
-  _ ← if_live (standing spent state)
+  _ ← refuse_if (not (is_taken (standing kept state))) Unknown
+  _ ← refuse_if (not (is_taken (standing spent state))) Unknown
   one ← lender Permit (standing kept state)
   other ← lender Permit (standing spent state)
   _ ← refuse_if (bytes_eq kept spent) Same

@@ -1,5 +1,6 @@
 -- A script: its lines, the calls that they stand for, its transcript, and the outcome of its bytes.
-use Rattle.std.specs.Prelude.{ℕ, ◌+◌, Bool, ◌==◌, nat_lt, if◌then◌else◌, List, [], ◌∷◌, ◌++◌, length, take, Option, Some, None}
+use Rattle.std.specs.Prelude.{ℕ, ◌+◌, Bool, ◌==◌, nat_lt, if◌then◌else◌, List, [], ◌∷◌, ◌++◌, length, take}
+use Rattle.std.specs.Prelude.{Option, Some, None}
 use Rattle.std.specs.List.{slice_split}
 use Rattle.band_script.specs.declared.call.Call.{Call}
 use Rattle.band_script.specs.Grammar.{call_of}
@@ -26,9 +27,6 @@ state_from state (call ∷ calls) = state_from (step call state).state calls
 abbrev pub state_after : List Call → State
 state_after calls = state_from [] calls
 
-abbrev pub is_newline : ℕ → Bool
-is_newline byte = byte == 10
-
 -- the parts that a newline ended, and the part after the last newline
 abbrev pub ended_parts : List (List ℕ) → List (List ℕ)
 ended_parts [] = []
@@ -42,10 +40,10 @@ last_part (part ∷ next ∷ parts) = last_part (next ∷ parts)
 
 -- the ended lines of bytes, and what stands after the last newline
 abbrev pub lines_of : List ℕ → List (List ℕ)
-lines_of bytes = ended_parts (slice_split is_newline bytes)
+lines_of bytes = ended_parts (slice_split (λ byte. byte == 10) bytes)
 
 abbrev pub rest_of : List ℕ → List ℕ
-rest_of bytes = last_part (slice_split is_newline bytes)
+rest_of bytes = last_part (slice_split (λ byte. byte == 10) bytes)
 
 -- the calls of lines, up to the first line that stands for none
 abbrev pub calls_from : Option Call → List Call → List Call
@@ -60,13 +58,15 @@ calls_of (line ∷ lines) = calls_from (call_of line) (calls_of lines)
 abbrev pub calls_within : ℕ → List ℕ → List Call
 calls_within limit bytes = calls_of (lines_of (take limit bytes))
 
--- the outcome of bytes: so many lines, or the number of a line that stands for no call, from 1, or more bytes than the limit
+-- the outcome of bytes: so many lines, or the number of a line that stands for no call, from 1, or more bytes
+-- than the limit
 pub data Verdict : Type 0 where
   Good : (lines : ℕ) → Verdict
   Malformed : (line : ℕ) → Verdict
   TooLong : Verdict
 
--- In this order: the first ended line that stands for no call; else more bytes than the limit; else a rest; else so many lines.
+-- In this order: the first ended line that stands for no call; else more bytes than the limit; else a rest;
+-- else so many lines.
 abbrev pub verdict_on : List (List ℕ) → List ℕ → Bool → Verdict
 verdict_on lines rest over =
     let done = length (calls_of lines) in
@@ -77,4 +77,6 @@ verdict_on lines rest over =
 
 -- the outcome of bytes under a limit
 abbrev pub verdict : ℕ → List ℕ → Verdict
-verdict limit bytes = verdict_on (lines_of (take limit bytes)) (rest_of (take limit bytes)) (nat_lt limit (length bytes))
+verdict limit bytes =
+    let within = take limit bytes in
+    verdict_on (lines_of within) (rest_of within) (nat_lt limit (length bytes))

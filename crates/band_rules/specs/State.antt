@@ -4,7 +4,7 @@ use Rattle.std.specs.Str.{bytes_eq}
 use Rattle.band_balance.specs.Line.{Entry, requests, entry_named}
 use Rattle.band_balance.specs.Object.{Object}
 use Rattle.band_balance.specs.Object as objects
-use Rattle.band_balance.specs.Rule.{is}
+use Rattle.band_balance.specs.Rule.{has_name}
 
 -- what names an entry: a name, and what it asks for or holds
 abbrev pub Tag : Type 0
@@ -35,5 +35,7 @@ abbrev pub standing : List ℕ → State → Standing
 standing name [] = Absent
 standing name (first ∷ rest) =
     let object = first.object in
-    standing_at first (bytes_eq name first.name) (entry_named (is bytes_eq name) (requests object.line)) (entry_named (is bytes_eq name) object.held)
+    standing_at first (bytes_eq name first.name)
+    (entry_named (has_name bytes_eq name) (requests object.line))
+    (entry_named (has_name bytes_eq name) object.held)
     (standing name rest)

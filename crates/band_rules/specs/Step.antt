@@ -26,12 +26,18 @@ reply_of (Figures available free waiting granted held) = replies.Figures availab
 abbrev pub with_object : List ℕ → Object Tag → State → State
 with_object name object [] = []
 with_object name object (first ∷ rest) =
-    if bytes_eq name first.name then record first { object = object } ∷ rest else first ∷ with_object name object rest
+    if bytes_eq name first.name
+    then record first { object = object } ∷ rest
+    else first ∷ with_object name object rest
 
 -- a refused call changes nothing and wakes nobody, and a new object comes last
 abbrev pub perform : Plan → State → Effect
 perform (Refuse refusal) state = record { reply = replies.Refused refusal; woken = []; state = state }
-perform (Make made object) state = record { reply = replies.Done; woken = []; state = state ++ record { name = made; object = object } ∷ [] }
+perform (Make made object) state = record {
+  reply = replies.Done;
+  woken = [];
+  state = state ++ record { name = made; object = object } ∷ [];
+}
 perform (Act of rule) state =
     let turn = act bytes_eq rule of.object in
     record { reply = reply_of turn.answer; woken = turn.woken; state = with_object of.name turn.object state }

@@ -2,9 +2,11 @@
 use Rattle.std.specs.Prelude.{ℕ, List, [], ◌∷◌, ◌++◌, codes, flat_map, decimal}
 use Rattle.std.specs.Fmt.{signed_decimal}
 use Rattle.band_base.specs.declared.refusal.Refusal.{Refusal}
-use Rattle.band_base.specs.declared.refusal.Refusal.TheVariants.{Unknown, Kind, Same, Taken, Finished, Other, Overflow, Debt}
+use Rattle.band_base.specs.declared.refusal.Refusal.TheVariants.{Unknown, Kind, Same, Taken, Finished, Other}
+use Rattle.band_base.specs.declared.refusal.Refusal.TheVariants.{Overflow, Debt}
 use Rattle.band_rules.specs.declared.reply.Reply.{Reply}
-use Rattle.band_rules.specs.declared.reply.Reply.TheVariants.{Done, Ready, Pending, Nothing, Drained, Figures, Refused}
+use Rattle.band_rules.specs.declared.reply.Reply.TheVariants.{Done, Ready, Pending, Nothing, Drained, Figures}
+use Rattle.band_rules.specs.declared.reply.Reply.TheVariants.{Refused}
 
 abbrev pub refusal_word : Refusal → List ℕ
 refusal_word Unknown = codes "unknown"
@@ -24,7 +26,8 @@ reply_text Pending = codes "pending"
 reply_text Nothing = codes "none"
 reply_text (Drained count) = codes "drained " ++ decimal count
 reply_text (Figures available free waiting granted held) =
-    codes "available " ++ decimal available ++ codes " free " ++ signed_decimal free ++ codes " waiting " ++ decimal waiting
+    codes "available " ++ decimal available ++ codes " free " ++ signed_decimal free
+    ++ codes " waiting " ++ decimal waiting
     ++ codes " granted " ++ decimal granted ++ codes " held " ++ decimal held
 reply_text (Refused refusal) = codes "refused " ++ refusal_word refusal
 

@@ -8,6 +8,7 @@ ghost use Rattle.band_script.specs.declared.call.Call.{Call as TheCall};
 ghost use Rattle.band_rules.specs.Bounds.{HasNumbers};
 ghost use Rattle.band_rules.specs.Joined.{GrantedInTurn, StandInTurn};
 ghost use Rattle.band_rules.specs.Permits.{brought_from, object_named, permits_of, removed_from};
+ghost use Rattle.band_rules.specs.Plan.{plan};
 ghost use Rattle.band_rules.specs.Script.{calls_of, state_after};
 ghost use Rattle.band_rules.specs.State.{Named};
 ghost use Rattle.band_rules.specs.Step.{step};
@@ -17,7 +18,8 @@ ghost use Rattle.band_rules.specs.Woken.{EachGrantsAFront, RefusesWhole, WakesTh
 /// what was reduced, drained and forgotten.
 pub fn permits_are_kept()
     ensures { (calls : List TheCall) → AllByRecursion ForReaders calls → (name : List ℕ)
-        → permits_of (object_named name (state_after calls)) +ℤ pos (removed_from name [] calls) ≡ pos (brought_from name [] calls) }
+        → permits_of (object_named name (state_after calls)) +ℤ pos (removed_from name [] calls)
+        ≡ pos (brought_from name [] calls) }
 {}
 
 /// The calls of a script make locks for one reader at least.
@@ -34,7 +36,8 @@ pub fn writes_exclude()
 /// After any calls, the first that waits in a line asks for more than is free.
 pub fn heads_wait()
     ensures { (calls : List TheCall)
-        → AllByRecursion (λ (named : Named). HeadWaits named.object.line.free named.object.line.waiting) (state_after calls) }
+        → AllByRecursion (λ (named : Named). HeadWaits named.object.line.free named.object.line.waiting)
+        (state_after calls) }
 {}
 
 /// The numbers in the calls of a script are below 2 to the 64th.
@@ -61,20 +64,23 @@ pub fn lines_stand_in_turn()
 /// A call after any calls wakes those that waited before it and are granted after it, in the order of their line, each once and by
 /// the waker that the line keeps for it.
 pub fn wakes_name_the_granted()
-    ensures { (calls : List TheCall) → (call : TheCall) → WakesTheGranted (state_after calls) (step call (state_after calls)) }
+    ensures { (calls : List TheCall) → (call : TheCall)
+        → WakesTheGranted (state_after calls) (step call (state_after calls)) }
 {}
 
 /// A call after any calls wakes nobody, unless it is a release, a drop or a downgrade.
 pub fn only_giving_back_wakes()
-    ensures { (calls : List TheCall) → (call : TheCall) → may_grant call ≡ false → (step call (state_after calls)).woken ≡ [] }
+    ensures { (calls : List TheCall) → (call : TheCall) → may_grant call ≡ false
+        → (step call (state_after calls)).woken ≡ [] }
 {}
 
-/// Where a call after any calls is a release, a drop or a downgrade, at most one leaves a line, and those that it grants stood in
-/// front of those that wait still and follow those granted before. It grants nobody where permits are owed still: what comes back
-/// pays them first.
+/// Where a call after any calls is a release, a drop or a downgrade, only the request that a drop cancels leaves a line, and
+/// those that it grants stood in front of those that wait still and follow those granted before. It grants nobody where permits
+/// are owed still: what comes back pays them first.
 pub fn a_front_is_granted()
     ensures { (calls : List TheCall) → (call : TheCall) → may_grant call ≡ true
-        → EachGrantsAFront (state_after calls) (step call (state_after calls)).state }
+        → EachGrantsAFront (plan call (state_after calls)) (state_after calls)
+        (step call (state_after calls)).state }
 {}
 
 /// A refused call changes nothing and wakes nobody, in any state.

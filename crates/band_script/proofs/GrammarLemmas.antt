@@ -19,10 +19,10 @@ use Rattle.band_script.specs.declared.form.TwoNames.{TwoNames}
 use Rattle.band_script.specs.declared.form.TwoNames.TheVariants as two_names
 use Rattle.band_script.specs.declared.form.TwoNamesNumber.{TwoNamesNumber}
 use Rattle.band_script.specs.declared.form.TwoNamesNumber.TheVariants as two_names_number
-use Rattle.band_script.specs.Call.{Parts, are_operands, operands, parts, spelling, written, IsCall}
+use Rattle.band_script.specs.Call.{Parts, parts, spelling, written, IsCall}
 use Rattle.band_script.specs.Grammar.{words_of, line_of, IsLine}
 use Rattle.band_script.specs.Inner.Forms.{word_of, IsWritten}
-use Rattle.band_script.specs.Inner.Reading.{Decodes, ReadsNameNumber, ReadsNameOption, ReadsOneName, ReadsTwoNames, ReadsTwoNamesNumber, ReadsTwoNamesTwoNumbers}
+use Rattle.band_script.specs.Inner.Reading.{Decodes, ReadsNameNumber, ReadsNameOption, ReadsOneName, ReadsTwoNames, ReadsTwoNamesNumber, ReadsTwoNamesTwoNumbers, are_operands, operands}
 use Rattle.band_script.specs.Name.{is_name}
 use Rattle.band_script.specs.Number.{is_number}
 use Rattle.band_script.proofs.NameLemmas.{name_has_no_space}

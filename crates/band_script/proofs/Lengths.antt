@@ -7,7 +7,8 @@ use Rattle.std.proofs.lemmas.Bool.{and_parts, ltb-true}
 use Rattle.std.proofs.lemmas.Fmt.{length-decimal-le}
 use Rattle.band_script.specs.declared.call.Call.{Call}
 use Rattle.band_script.specs.declared.call.Call.TheVariants as calls
-use Rattle.band_script.specs.Call.{operands, parts}
+use Rattle.band_script.specs.Call.{parts}
+use Rattle.band_script.specs.Inner.Reading.{operands}
 use Rattle.band_script.specs.Grammar.{IsLine, line_of}
 use Rattle.band_script.specs.Name.{is_name}
 use Rattle.band_script.specs.Number.{is_number}

@@ -1,10 +1,13 @@
 -- How each call is written, and which calls a script can write.
-use Rattle.std.specs.Prelude.{ℕ, Bool, true, ◌&&◌, nat_lt, List, [], ◌∷◌, ◌++◌, codes, map, Some, None, IsTrue}
+use Rattle.std.specs.Prelude.{ℕ, Bool, true, ◌&&◌, nat_lt, List, [], ◌∷◌, ◌++◌, codes, map, Some, None}
+use Rattle.std.specs.Prelude.{IsTrue}
 use Rattle.std.specs.Fmt.{decimal}
 use Rattle.std.specs.List.{list_all}
 use Rattle.band_script.specs.declared.call.Call.{Call}
-use Rattle.band_script.specs.declared.call.Call.TheVariants.{Sem, Mutex, Rw, Ask, Lock, Read, Write, Poll, Drop, Try}
-use Rattle.band_script.specs.declared.call.Call.TheVariants.{TryLock, TryRead, TryWrite, Release, Reduce, Drain, Forget, Split, Merge, Downgrade, Status}
+use Rattle.band_script.specs.declared.call.Call.TheVariants.{Sem, Mutex, Rw, Ask, Lock, Read, Write, Poll}
+use Rattle.band_script.specs.declared.call.Call.TheVariants.{Drop, Try}
+use Rattle.band_script.specs.declared.call.Call.TheVariants.{TryLock, TryRead, TryWrite, Release, Reduce}
+use Rattle.band_script.specs.declared.call.Call.TheVariants.{Drain, Forget, Split, Merge, Downgrade, Status}
 use Rattle.band_script.specs.Name.{is_name}
 use Rattle.band_script.specs.Number.{is_number}
 
@@ -41,17 +44,9 @@ parts (Merge kept spent) = written (codes "merge") (kept ∷ spent ∷ []) []
 parts (Downgrade name) = written (codes "downgrade") (name ∷ []) []
 parts (Status name) = written (codes "status") (name ∷ []) []
 
--- the words after that of the form: a number is written in decimal
-abbrev pub operands : List (List ℕ) → List ℕ → List (List ℕ)
-operands names numbers = names ++ map decimal numbers
-
--- the words of a call
+-- the words of a call: a number is written in decimal
 abbrev pub spelling : Call → List (List ℕ)
-spelling call = (parts call).form ∷ operands (parts call).names (parts call).numbers
-
--- each name is one, and each number
-abbrev pub are_operands : List (List ℕ) → List ℕ → Bool
-are_operands names numbers = list_all is_name names && list_all is_number numbers
+spelling call = (parts call).form ∷ (parts call).names ++ map decimal (parts call).numbers
 
 -- a lock is made for one reader at least
 abbrev pub has_readers : Call → Bool
@@ -61,9 +56,10 @@ has_readers call = true
 abbrev pub ForReaders : Call → Type 0
 ForReaders call = IsTrue (has_readers call)
 
--- a call that a line can stand for
+-- a call that a line can stand for: each of its names is one, and each number
 abbrev pub is_call : Call → Bool
-is_call call = are_operands (parts call).names (parts call).numbers && has_readers call
+is_call call =
+    (list_all is_name (parts call).names && list_all is_number (parts call).numbers) && has_readers call
 
 abbrev pub IsCall : Call → Type 0
 IsCall call = IsTrue (is_call call)

@@ -4,8 +4,10 @@ use Rattle.std.specs.List.{slice_split, join_with_byte}
 use Rattle.std.specs.Str.{bytes_eq}
 use Rattle.std.specs.Str.Parse.{digits_value}
 use Rattle.band_script.specs.declared.call.Call.{Call}
-use Rattle.band_script.specs.declared.call.Call.TheVariants.{Sem, Mutex, Rw, Ask, Lock, Read, Write, Poll, Drop, Try}
-use Rattle.band_script.specs.declared.call.Call.TheVariants.{TryLock, TryRead, TryWrite, Release, Reduce, Drain, Forget, Split, Merge, Downgrade, Status}
+use Rattle.band_script.specs.declared.call.Call.TheVariants.{Sem, Mutex, Rw, Ask, Lock, Read, Write, Poll}
+use Rattle.band_script.specs.declared.call.Call.TheVariants.{Drop, Try}
+use Rattle.band_script.specs.declared.call.Call.TheVariants.{TryLock, TryRead, TryWrite, Release, Reduce}
+use Rattle.band_script.specs.declared.call.Call.TheVariants.{Drain, Forget, Split, Merge, Downgrade, Status}
 use Rattle.band_script.specs.Call.{spelling, is_call, IsCall}
 
 -- the words of a line: what stands between its spaces

@@ -1,8 +1,10 @@
 -- Worked lines, each with the call that it stands for, or with none. They follow by computation.
 use Rattle.std.specs.Prelude.{◌≡◌, ℕ, List, [], ◌∷◌, codes, map, Option, Some, None}
 use Rattle.band_script.specs.declared.call.Call.{Call}
-use Rattle.band_script.specs.declared.call.Call.TheVariants.{Sem, Mutex, Rw, Ask, Lock, Read, Write, Poll, Drop, Try}
-use Rattle.band_script.specs.declared.call.Call.TheVariants.{TryLock, TryRead, TryWrite, Release, Reduce, Drain, Forget, Split, Merge, Downgrade, Status}
+use Rattle.band_script.specs.declared.call.Call.TheVariants.{Sem, Mutex, Rw, Ask, Lock, Read, Write, Poll}
+use Rattle.band_script.specs.declared.call.Call.TheVariants.{Drop, Try}
+use Rattle.band_script.specs.declared.call.Call.TheVariants.{TryLock, TryRead, TryWrite, Release, Reduce}
+use Rattle.band_script.specs.declared.call.Call.TheVariants.{Drain, Forget, Split, Merge, Downgrade, Status}
 use Rattle.band_script.specs.Grammar.{call_of}
 
 abbrev pub calls : List (List ℕ × Option Call)

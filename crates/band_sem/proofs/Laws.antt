@@ -1,11 +1,11 @@
 -- The calls keep the order of the line, and who leaves it changes nothing for the others.
-use Rattle.std.proofs.Common.{◌≡◌, refl, ℕ, ◌+◌, ◌≤◌, Bool, true, false, cond, List, [], ◌∷◌, ◌++◌, map, pos, ◌+ℤ◌, Option, Some, None, Result, Ok, Err, inl, inr, nat_eq, arith, ap, sym, ◌∙◌, append-nil}
-use Rattle.std.specs.Bool.{OnTrue}
+use Rattle.std.proofs.Common.{◌≡◌, refl, ℕ, ◌+◌, ◌≤◌, Bool, true, false, cond, List, [], ◌∷◌, ◌++◌, map, pos, ◌+ℤ◌, Option, Some, None, Result, Ok, Err, inl, inr, nat_eq, arith, ap, ap₂, sym, ◌∙◌, append-nil}
 use Rattle.std.specs.List.{IsDistinct}
 use Rattle.std.specs.List.Sorted.{IsPermutation}
 use Rattle.std.proofs.lemmas.List.{map-append}
-use Rattle.std.proofs.lemmas.List.Sorted.{IsPermutation-refl}
-use Rattle.band_balance.specs.Line.{Entry, Waiting, Line, entry_of, requests, total, add_permits, take_permits, give_back, join, entry_named, without, without_waiting, poll_granted, poll_waiting, settle, withdraw, cancel}
+use Rattle.std.proofs.lemmas.List.Sorted.{IsPermutation-refl, IsPermutation-trans}
+use Rattle.band_balance.specs.Line.{Entry, Waiting, Line, AreAlike, entry_of, requests, total, add_permits, take_permits, give_back, join, entry_named, without, without_waiting, poll_granted, poll_waiting, settle, withdraw, cancel}
+use Rattle.band_balance.proofs.Alike.{total-alike, requests-alike}
 use Rattle.band_balance.proofs.Settle.{passed, left, passed-left, le_false_from_lt, granted-settle, waiting-settle, wakes-settle, free-total-cancel}
 use Rattle.band_balance.proofs.Requests.{count_named, count_named-append, entry_named-none, entries-leave_waker, entries-without_waiting, requests-cancel}
 use Rattle.band_balance.proofs.Distinct.{once}
@@ -17,7 +17,7 @@ use Rattle.band_sem.specs.Laws.{IsSublist, KeepsOrder, IsBehind, MakesRoomFor, L
 use Rattle.band_sem.specs.Permit.{Permit}
 use Rattle.band_sem.specs.Request.{Request}
 use Rattle.band_balance.specs.Settled.{HeadWaits}
-use Rattle.band_sem.specs.Semaphore.{SemaphoreState, FirstPoll, LaterPoll, is_slot}
+use Rattle.band_sem.specs.Semaphore.{SemaphoreState, IsLike, IsLawful, FirstPoll, LaterPoll, is_slot, without_request}
 
 IsPermutation-equal : (xs ys : List (Entry ℕ)) → ys ≡ xs → IsPermutation xs ys
 IsPermutation-equal xs ys same = rw same (IsPermutation-refl xs)
@@ -99,7 +99,7 @@ settles old base waiting granted =
       granted = IsPermutation-equal (base.granted ++ map entry_of front) (settle base).granted (granted-settle base);
     }
 
-pub KeepsOrder-give_back : (n : ℕ) (old : Line ℕ) → KeepsOrder old (give_back n old)
+KeepsOrder-give_back : (n : ℕ) (old : Line ℕ) → KeepsOrder old (give_back n old)
 KeepsOrder-give_back n old = settles old (add_permits n old) (IsSublist-itself (map entry_of old.waiting)) (IsSublist-itself old.granted)
 
 KeepsOrder-cancel : (slot : ℕ) (old : Line ℕ) → KeepsOrder old (cancel (is_slot slot) old)
@@ -110,16 +110,25 @@ KeepsOrder-cancel slot old = at (entry_named (is_slot slot) old.granted)
     at None = settles old (withdraw None (is_slot slot) old)
         (rw (entries-without_waiting (is_slot slot) old.waiting) (IsSublist-without (is_slot slot) (map entry_of old.waiting))) (IsSublist-itself old.granted)
 
--- the same at states that are equal to these
-pub KeepsOrder-gives_back : (n : ℕ) (before old new : Line ℕ) → before ≡ old → new ≡ give_back n before → KeepsOrder old new
-KeepsOrder-gives_back n before old new same gives = rw (gives, same) (KeepsOrder-give_back n old)
+-- The same up to the order of those granted.
+KeepsOrder-alike : (old one other : Line ℕ) → AreAlike one other → KeepsOrder old one → KeepsOrder old other
+KeepsOrder-alike old one other alike h = record {
+  granted_now = h.granted_now;
+  stayed = h.stayed;
+  waited = h.waited;
+  joined = h.joined;
+  are_new = h.are_new;
+  waiting = ap (map entry_of) alike.waiting ∙ h.waiting;
+  kept = h.kept;
+  granted_before = h.granted_before;
+  granted = IsPermutation-trans _ _ _ h.granted alike.granted;
+}
 
-pub KeepsOrder-cancels : (slot : ℕ) (before old new : Line ℕ) → before ≡ old → new ≡ cancel (is_slot slot) before → KeepsOrder old new
-KeepsOrder-cancels slot before old new same cancels = rw (cancels, same) (KeepsOrder-cancel slot old)
+pub KeepsOrder-gives_back : (n : ℕ) (old new : Line ℕ) → AreAlike (give_back n old) new → KeepsOrder old new
+KeepsOrder-gives_back n old new alike = KeepsOrder-alike old (give_back n old) new alike (KeepsOrder-give_back n old)
 
-pub KeepsOrder-released : (released : Bool) (n : ℕ) (before old new : SemaphoreState) → before ≡ old → OnTrue released (new ≡ record before { line = give_back n before.line }) → (released ≡ false → new ≡ before) → KeepsOrder old.line new.line
-KeepsOrder-released true n before old new same done undone = KeepsOrder-gives_back n before.line old.line new.line (ap (λ s. s.line) same) (ap (λ s. s.line) done)
-KeepsOrder-released false n before old new same done undone = KeepsOrder-same old.line new.line (ap (λ s. s.line) (undone refl ∙ same))
+pub KeepsOrder-cancels : (slot : ℕ) (old new : Line ℕ) → AreAlike (cancel (is_slot slot) old) new → KeepsOrder old new
+KeepsOrder-cancels slot old new alike = KeepsOrder-alike old (cancel (is_slot slot) old) new alike (KeepsOrder-cancel slot old)
 
 -- the order is kept from the old state to any that is the same as the new one
 module _ (old new : SemaphoreState) where
@@ -212,10 +221,20 @@ module _ (slot : ℕ) (line : Line ℕ) (distinct : IsDistinct nat_eq (map (λ e
   pub MakesRoomFor-cancel : (granted_now : List (Waiting ℕ)) × MakesRoomFor slot line (cancel (is_slot slot) line) granted_now
   MakesRoomFor-cancel = (room (entry_named (is_slot slot) line.granted), makes_room (entry_named (is_slot slot) line.granted) refl (free-total-cancel (is_slot slot) line))
 
-LeavesOthers-cancel : (slot : ℕ) (old : SemaphoreState) → IsDistinct nat_eq (map (λ e. e.name) (requests old.line)) → HeadWaits old.line.free old.line.waiting → LeavesOthers slot old (record old { line = cancel (is_slot slot) old.line })
-LeavesOthers-cancel slot old distinct head =
-    (refl, refl, IsPermutation-equal _ _ (requests-cancel (is_slot slot) old.line), MakesRoomFor-cancel slot old.line distinct head)
+MakesRoomFor-alike : (slot : ℕ) (old one other : Line ℕ) (granted_now : List (Waiting ℕ)) → AreAlike one other → MakesRoomFor slot old one granted_now → MakesRoomFor slot old other granted_now
+MakesRoomFor-alike slot old one other granted_now alike h = record {
+  waiting = h.waiting ∙ ap (λ ws. granted_now ++ ws) (sym alike.waiting);
+  granted = IsPermutation-trans _ _ _ h.granted alike.granted;
+  wakes = alike.wakes ∙ h.wakes;
+  sum = ap₂ (λ free sum. free +ℤ pos sum) alike.free (total-alike one other alike) ∙ h.sum;
+  none_behind = h.none_behind;
+}
 
-pub LeavesOthers-cancels : (slot : ℕ) (before old new : SemaphoreState) → before ≡ old → new ≡ record before { line = cancel (is_slot slot) before.line } →
-    IsDistinct nat_eq (map (λ e. e.name) (requests before.line)) → HeadWaits before.line.free before.line.waiting → LeavesOthers slot old new
-LeavesOthers-cancels slot before old new same cancels distinct head = rw (cancels, ← same) (LeavesOthers-cancel slot before distinct head)
+pub LeavesOthers-cancels : (slot : ℕ) (old new : SemaphoreState) → IsLawful old → IsLike (without_request slot old) new → LeavesOthers slot old new
+LeavesOthers-cancels slot old new lawful like =
+    let room = MakesRoomFor-cancel slot old.line lawful.one_each lawful.head_waits in (
+      like.number,
+      like.held,
+      IsPermutation-trans _ _ _ (IsPermutation-equal _ _ (requests-cancel (is_slot slot) old.line)) (requests-alike (cancel (is_slot slot) old.line) new.line like.line),
+      (room.0, MakesRoomFor-alike slot old.line (cancel (is_slot slot) old.line) new.line room.0 like.line room.1),
+    )

@@ -1,11 +1,8 @@
+pub mod Bridge
 pub mod Held
 pub mod Like
 pub mod Own
+pub mod Visits
 pub mod Whole
 mod Lawful
 mod Laws
-mod Line
-mod Orderly
-mod Parts
-mod Places
-mod Slots

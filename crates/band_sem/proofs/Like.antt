@@ -1,23 +1,20 @@
 -- What is the same of semaphores that differ at most in the order of those granted.
-use Rattle.std.proofs.Common.{◌≡◌, ℕ, ◌<◌, ◌+◌, nat_eq, refl, ◌∙◌, sym, ap, arith}
+use Rattle.std.proofs.Common.{◌≡◌, ℕ, ◌<◌, ◌+◌, nat_eq, ◌∙◌, sym, ap, arith}
 use Rattle.std.specs.List.{AllByRecursion}
 use Rattle.std.proofs.lemmas.Bool.Decides.{nat_tests}
 use Rattle.std.proofs.lemmas.List.Elements.{All-from_recursion, recursion_from_All}
 use Rattle.std.proofs.lemmas.List.Sorted.{IsPermutation-sym, IsPermutation-map, All-permutation}
 use Rattle.std.proofs.lemmas.Map.Keys.{IsDistinct-IsPermutation}
 use Rattle.band_balance.specs.Line.{Entry, requests, total, entry_named}
-use Rattle.band_balance.proofs.Alike.{alike_itself, requests-alike, total-alike, finds_the_same}
+use Rattle.band_balance.proofs.Alike.{alike_back, requests-alike, total-alike, finds_the_same}
 use Rattle.band_balance.proofs.Distinct.{once}
 use Rattle.band_sem.specs.Request.{Stage, NotPolled, Joined, Finished}
 use Rattle.band_sem.specs.Semaphore.{SemaphoreState, IsLike, IsLawful, IsOwn, is_slot}
-use Rattle.band_sem.specs.Whole.{IsWhole}
+use Rattle.band_sem.specs.Whole.{IsWhole, StaysWhole}
 use Rattle.band_sem.proofs.Whole.{is_whole}
 
-pub like_itself : (state : SemaphoreState) → IsLike state state
-like_itself state = record { number = refl; line = alike_itself state.line; held = refl }
-
-pub like_equal : (one other : SemaphoreState) → other ≡ one → IsLike one other
-like_equal one other same = rw same (like_itself one)
+pub like_back : (one other : SemaphoreState) → IsLike one other → IsLike other one
+like_back one other like = record { number = sym like.number; line = alike_back one.line other.line like.line; held = sym like.held }
 
 -- a slot has the same request in both
 pub found-like : (slot : ℕ) (one other : SemaphoreState) → IsLike one other → IsLawful other → entry_named (is_slot slot) (requests one.line) ≡ entry_named (is_slot slot) (requests other.line)
@@ -64,3 +61,7 @@ module _ (one other : SemaphoreState) (like : IsLike one other) where
   pub IsWhole-like : (n : ℕ) → IsWhole n other → IsWhole n one
   IsWhole-like n whole =
       is_whole n one (rw (← like.line.free) whole.none_owed) (rw (← in_hand_same, ← like.line.free) whole.adds_up) (each_asks whole.each_asks)
+
+-- It stays one of n permits up to the order of those granted.
+pub StaysWhole-like : (old one other : SemaphoreState) → IsLike one other → StaysWhole old one → StaysWhole old other
+StaysWhole-like old one other like stays n whole = IsWhole-like other one (like_back one other like) n (stays n whole)

@@ -12,7 +12,7 @@ use Rattle.band_base.specs.declared.waker.Waker.{Waker}
 use Rattle.band_sem.proofs.Like.{IsOwn-like}
 use Rattle.band_sem.specs.Permit.{Permit}
 use Rattle.band_sem.specs.Request.{Request, Stage, NotPolled, Joined, Finished}
-use Rattle.band_sem.specs.Semaphore.{SemaphoreState, IsLike, IsLawful, IsOwn, SlotsDiffer, Polls, PollsAt, TakesWake, taken, given_back, released, reduced, forgotten, cancelled, is_slot}
+use Rattle.band_sem.specs.Semaphore.{SemaphoreState, IsLike, IsLawful, IsOwn, SlotsDiffer, Polls, PollsAt, TakesWake, taken, given_back, released, reduced, cancelled, is_slot}
 
 same_slot : (slot : ℕ) → nat_eq slot slot ≡ true
 same_slot slot = grind (arith, nat_tests)
@@ -64,9 +64,6 @@ module _ (mine : Request) (old new : SemaphoreState) (own : IsOwn mine.stage min
 
   pub IsOwn-reduced : (n : ℕ) → new ≡ reduced n old → IsOwn mine.stage mine.size new.line
   IsOwn-reduced n is = rw is (IsOwn-same mine.stage mine.size old.line _ refl own)
-
-  pub IsOwn-forgotten : (n : ℕ) → new ≡ forgotten n old → IsOwn mine.stage mine.size new.line
-  IsOwn-forgotten n is = rw is own
 
   pub IsOwn-given_back : (n : ℕ) → IsLike (given_back n old) new → IsLawful new → IsOwn mine.stage mine.size new.line
   IsOwn-given_back n is lawful =

@@ -142,7 +142,7 @@ module _ (n : ℕ) (state : SemaphoreState) (is : IsWhole n state) where
       same : (k : ℕ) (z z' : ℤ) (g g' h : ℕ) → k ≤ h → z' +ℤ pos g' ≡ z +ℤ pos k +ℤ pos g → z +ℤ pos (g + h) ≡ pos n → z' +ℤ pos (g' + (h - k)) ≡ pos n
       same k z z' g g' h le moved e = omega (arith, ints)
 
-  IsWhole-without_request : (slot : ℕ) → IsWhole n (without_request slot state)
+  pub IsWhole-without_request : (slot : ℕ) → IsWhole n (without_request slot state)
   IsWhole-without_request slot =
       is_whole n _
       (unowed (entry_named (is_slot slot) state.line.granted))
@@ -194,7 +194,7 @@ available_is_free k line fits unowed = go (nobody_waits line.waiting && int_lt (
     go false le = none k line.free le unowed
 
 -- more or fewer permits than there were
-IsWhole-released : (n k : ℕ) (state : SemaphoreState) → IsWhole n state → IsWhole (n + k) (released k state)
+pub IsWhole-released : (n k : ℕ) (state : SemaphoreState) → IsWhole n state → IsWhole (n + k) (released k state)
 IsWhole-released n k state is =
     is_whole (n + k) _
     (settles_unowed (state.line.free +ℤ pos k) state.line.waiting state.line.granted state.line.wakes (more k state.line.free is.none_owed))
@@ -231,9 +231,6 @@ module _ (old new : SemaphoreState) where
   pub StaysWhole-taken : (k : ℕ) → is_served k old.line ≡ true → new ≡ taken k old → StaysWhole old new
   StaysWhole-taken k served takes = λ n is. rw takes (IsWhole-taken n old is k served)
 
-  pub whole-released : (k : ℕ) → new ≡ released k old → (m : ℕ) → IsWhole m old → IsWhole (m + k) new
-  whole-released k adds m is = rw adds (IsWhole-released m k old is)
-
   pub whole-drained : (up_to k : ℕ) → k ≡ drained up_to old.line → new ≡ reduced k old → (m : ℕ) → IsWhole (m + k) old → IsWhole m new
   whole-drained up_to k count takes m is =
       rw takes (IsWhole-reduced m k old (available_is_free k old.line (rw count (min-le_right up_to (available old.line))) is.none_owed) is)
@@ -241,15 +238,9 @@ module _ (old new : SemaphoreState) where
   pub whole-forgotten : (k : ℕ) → k ≤ old.held → new ≡ forgotten k old → (m : ℕ) → IsWhole (m + k) old → IsWhole m new
   whole-forgotten k held forgets m is = rw forgets (IsWhole-forgotten m k old held is)
 
-  pub StaysWhole-given_back : (k : ℕ) → k ≤ old.held → new ≡ given_back k old → StaysWhole old new
-  StaysWhole-given_back k held gives = λ n is. rw gives (IsWhole-given_back n old is k held)
-
   pub StaysWhole-woken : (result : Option Waker) → TakesWake old result new → StaysWhole old new
   StaysWhole-woken None (none, same) = StaysWhole-same same
   StaysWhole-woken (Some waker) (first, takes) = λ n is. rw takes (IsWhole-woken n old is)
-
-  pub StaysWhole-without_request : (slot : ℕ) → new ≡ without_request slot old → StaysWhole old new
-  StaysWhole-without_request slot ends = λ n is. rw ends (IsWhole-without_request n old is slot)
 
   pub StaysWhole-first_poll : (request request' : Request) (waker : ℕ) (result : Result (Poll Permit) PollError) → FirstPoll request waker old result request' new → StaysWhole old new
   StaysWhole-first_poll request request' waker (Ok (polls.Ready permit)) (served, a, takes, b) = λ n is. rw takes (IsWhole-taken n old is request.size (is_true (is_served request.size old.line) served))

@@ -1,4 +1,3 @@
 -- What is kept inside, and what it stands for. No clause of a public call cites it.
 pub mod Progress
-pub mod Queue
 pub mod Store

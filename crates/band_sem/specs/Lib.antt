@@ -3,5 +3,7 @@ pub mod Laws
 pub mod Permit
 pub mod Request
 pub mod Semaphore
+pub mod Shown
+pub mod Visits
 pub mod Whole
 pub use Rattle.band_balance.specs.Line

@@ -1,7 +1,7 @@
 -- What a contract sees of a semaphore, and what each call makes of it.
-use Rattle.std.specs.Prelude.{◌≡◌, ℕ, ◌+◌, ◌-◌, ◌<◌, ◌≤◌, Bool, false, ◌==◌, ◌∷◌, [], drop, map, pos, neg_ℤ, ◌+ℤ◌, ◌≤ℤ◌, IsTrue, Option, Some, None, Result, Ok, Err, nat_eq}
+use Rattle.std.specs.Prelude.{◌≡◌, ℕ, ◌+◌, ◌-◌, ◌<◌, ◌≤◌, Bool, false, ◌==◌, ◌∷◌, [], drop, map, pos, neg_ℤ, ◌+ℤ◌, ◌≤ℤ◌, IsTrue, Option, Some, None, Result, Ok, Err, nat_eq, nat_le, if◌then◌else◌}
 use Rattle.std.specs.List.{IsDistinct, AllByRecursion}
-use Rattle.band_balance.specs.Line.{Line, AreAlike, open_line, requests, total, is_served, take_permits, give_back, join, entry_named, poll_granted, poll_waiting, cancel, u64_max}
+use Rattle.band_balance.specs.Line.{Line, AreAlike, open_line, requests, total, available, is_served, take_permits, give_back, join, entry_named, poll_granted, poll_waiting, cancel, u64_max}
 use Rattle.band_balance.specs.Settled.{HeadWaits}
 use Rattle.band_base.specs.declared.poll.Poll.{Poll}
 use Rattle.band_base.specs.declared.poll.Poll.TheVariants.{Ready, Pending}
@@ -11,13 +11,15 @@ use Rattle.band_base.specs.declared.waker.Waker.{Waker}
 use Rattle.band_sem.specs.Permit.{Permit, new_permit}
 use Rattle.band_sem.specs.Request.{Request, Stage, NotPolled, Joined, Finished}
 
--- its number, its line by slots, and how many permits are held
+-- its number, its line by slots, how many permits are held, and how many debts are not paid yet
 pub record SemaphoreState : Type 0 where
   pub number : ℕ
   pub line : Line ℕ
   pub held : ℕ
+  pub debts : ℕ
 
--- Two are alike where they differ at most in the order of those granted, which no call looks at.
+-- Two are alike where they differ at most in the order of those granted, which no call looks at, and in how many
+-- debts make up what is owed.
 pub record IsLike (one other : SemaphoreState) : Type 0 where
   pub number : other.number ≡ one.number
   pub line : AreAlike one.line other.line
@@ -39,7 +41,7 @@ is_slot slot name = slot == name
 
 -- one of n permits, of which nobody has any
 abbrev pub new_state : ℕ → ℕ → SemaphoreState
-new_state number n = record { number = number; line = open_line n; held = 0 }
+new_state number n = record { number = number; line = open_line n; held = 0; debts = 0 }
 
 -- n of the free permits are held from now on
 abbrev pub taken : ℕ → SemaphoreState → SemaphoreState
@@ -57,9 +59,13 @@ forgotten n old = record old { held = old.held - n }
 abbrev pub released : ℕ → SemaphoreState → SemaphoreState
 released n old = record old { line = give_back n old.line }
 
+-- what is not available of n makes one debt
+abbrev pub new_debts : ℕ → Line ℕ → ℕ
+new_debts n line = if nat_le n (available line) then 0 else 1
+
 -- n of the free ones are gone; what is not there is owed
 abbrev pub reduced : ℕ → SemaphoreState → SemaphoreState
-reduced n old = record old { line = take_permits n old.line }
+reduced n old = record old { line = take_permits n old.line; debts = old.debts + new_debts n old.line }
 
 -- a request goes to the end of the line under this slot
 abbrev pub joined : ℕ → ℕ → ℕ → SemaphoreState → SemaphoreState

@@ -1,13 +1,16 @@
 //! A request for permits.
 ghost use Rattle.std.specs.Prelude.{◌≡◌};
 ghost use Rattle.band_sem.specs.Laws.{KeepsOrder, Leaves};
-ghost use Rattle.band_sem.specs.Request.{new_request, Joined};
+ghost use Rattle.band_sem.specs.Request.{new_request, NotPolled, Joined};
 ghost use Rattle.band_sem.specs.Semaphore.{IsLike, IsLawful, IsOwn, Polls, FirstPoll, LaterPoll, cancelled};
+ghost use Rattle.band_line.specs.Visits.{Visits};
+ghost use Rattle.band_sem.specs.Visits.{FewVisits, PollVisits};
 ghost use Rattle.band_sem.specs.Whole.{StaysWhole};
 
 use crate::store::Entrance;
 use crate::{Semaphore, SemaphorePermit};
 use band_base::{Poll, PollError, Steps, Waker};
+use band_line::WaiterId;
 use std::marker::Model;
 use std::sync::ledger::Ledger;
 
@@ -17,7 +20,7 @@ enum Progress {
     /// It was not polled yet.
     NotPolled,
     /// It has this slot of its semaphore, and waits or was granted.
-    Joined(u64),
+    Joined(WaiterId),
     /// It gave its permits.
     Finished,
 }
@@ -86,10 +89,14 @@ impl Acquire {
         ensures order { KeepsOrder sem.old.line sem.new.line }
         ensures lawful { IsLawful sem.new }
         ensures whole { StaysWhole sem.old sem.new }
+        ensures visits { PollVisits self.old.stage result steps.old steps.new }
     {
-        match self.progress {
-            Progress::NotPolled => self.poll_first(sem, waker),
-            Progress::Joined(slot) => Ok(self.poll_later(sem, slot, waker)),
+        match &self.progress {
+            Progress::NotPolled => self.poll_first(sem, waker, steps),
+            Progress::Joined(slot) => {
+                let slot = *slot;
+                Ok(self.poll_later(sem, slot, waker, steps))
+            }
             Progress::Finished => {
                 sem.touch();
                 Err(PollError::Finished)
@@ -97,33 +104,42 @@ impl Acquire {
         }
     }
 
-    fn poll_first(
+    fn poll_first<L: Ledger>(
         &mut self,
         sem: &mut Semaphore,
         waker: Waker,
+        steps: &mut Steps<L>,
     ) -> Result<Poll<SemaphorePermit>, PollError>
         ensures polls { FirstPoll self.old waker.0 sem.old result self.new sem.new }
         ensures lawful { IsLawful sem.new }
+        ensures visits { PollVisits NotPolled result steps.old steps.new }
     {
-        match sem.enter(self.size, waker) {
+        match &sem.enter(self.size, waker, steps) {
             Ok(Entrance::Served) => {
                 self.progress = Progress::Finished;
                 Ok(Poll::Ready(SemaphorePermit::new(self.of, self.size)))
             }
             Ok(Entrance::Joined(slot)) => {
-                self.progress = Progress::Joined(slot);
+                self.progress = Progress::Joined(*slot);
                 Ok(Poll::Pending)
             }
             Err(_) => Err(PollError::NoMemory),
         }
     }
 
-    fn poll_later(&mut self, sem: &mut Semaphore, slot: u64, waker: Waker) -> Poll<SemaphorePermit>
+    fn poll_later<L: Ledger>(
+        &mut self,
+        sem: &mut Semaphore,
+        slot: WaiterId,
+        waker: Waker,
+        steps: &mut Steps<L>,
+    ) -> Poll<SemaphorePermit>
         requires { IsOwn (Joined slot) self.old.size sem.old.line }
         ensures polls { LaterPoll slot self.old waker.0 sem.old (Ok result) self.new sem.new }
         ensures lawful { IsLawful sem.new }
+        ensures visits { Visits 1 2 steps.old steps.new }
     {
-        match sem.poll_slot(slot, waker) {
+        match sem.poll_slot(slot, waker, steps) {
             Some(size) => {
                 self.progress = Progress::Finished;
                 Poll::Ready(SemaphorePermit::new(self.of, size))
@@ -141,9 +157,10 @@ impl Acquire {
         ensures order { KeepsOrder sem.old.line sem.new.line }
         ensures lawful { IsLawful sem.new }
         ensures whole { StaysWhole sem.old sem.new }
+        ensures visits { FewVisits sem.old sem.new steps.old steps.new }
     {
         match &self.progress {
-            Progress::Joined(slot) => sem.cancel(*slot),
+            Progress::Joined(slot) => sem.cancel(*slot, steps),
             Progress::NotPolled | Progress::Finished => sem.touch(),
         }
         self.lose();

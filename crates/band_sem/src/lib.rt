@@ -5,13 +5,12 @@ mod acquire;
 mod balance;
 mod errors;
 mod permit;
-mod place;
-mod queue;
 mod semaphore;
 mod store;
 
 pub use acquire::Acquire;
 pub use band_base::Refusal;
+pub use band_row::WaitNode;
 pub use errors::{MergeError, ReduceError, ReleaseError};
 pub use permit::SemaphorePermit;
 pub use semaphore::Semaphore;

@@ -1,16 +1,21 @@
 //! The semaphore.
-ghost use Rattle.std.specs.Prelude.{◌≡◌, ℕ, ◌+◌, ◌-◌, ◌<◌, ◌≤◌, ◌↔◌, length, IsTrue, IsSome, IfSome, OnSome, IfNone, IsErrOf, OnOk, OnErr};
-ghost use Rattle.band_balance.specs.Line.{total, available, drained, overflows, owes_too_much, is_served};
+ghost use Rattle.std.specs.Prelude.{◌≡◌, ℕ, ◌+◌, ◌-◌, ◌*◌, ◌<◌, ◌≤◌, ◌↔◌, length, IsTrue, IsSome, IfSome, OnSome, IfNone, IsErrOf, OnOk, OnErr};
+ghost use Rattle.band_balance.specs.Line.{total, available, drained, overflows, owes_too_much, is_served, requests, entry_named};
 ghost use Rattle.band_sem.specs.Permit.{new_permit};
 ghost use Rattle.band_sem.specs.Request.{new_request};
 ghost use Rattle.band_sem.specs.Laws.{KeepsOrder, LeavesOthers};
-ghost use Rattle.band_sem.specs.Semaphore.{SemaphoreState, IsLike, IsLawful, new_state, taken, given_back, forgotten, released, reduced, without_request, TakesWake};
-ghost use Rattle.band_sem.specs.Kept.Store.{Enters, PollsSlot};
+ghost use Rattle.band_sem.specs.Semaphore.{SemaphoreState, IsLike, IsLawful, is_slot, new_state, new_debts, taken, given_back, forgotten, released, reduced, without_request, TakesWake};
+ghost use Rattle.band_line.specs.Visits.{Visits};
+ghost use Rattle.band_sem.specs.Shown.{ShowsLine};
+ghost use Rattle.band_sem.specs.Visits.{FewVisits};
+ghost use Rattle.band_sem.specs.Kept.Store.{Enters, EntersIn, PollsSlot};
 ghost use Rattle.band_sem.specs.Whole.{IsWhole, StaysWhole};
 
 use crate::store::{Entrance, Store};
 use crate::{Acquire, ReduceError, ReleaseError, SemaphorePermit};
 use band_base::{Steps, Waker};
+use band_line::{WaitList, WaiterId};
+use band_row::WaitNode;
 use std::alloc::{AllocError, Global};
 use std::marker::Model;
 use std::sync::ledger::Ledger;
@@ -90,6 +95,14 @@ impl Semaphore {
         self.store.held()
     }
 
+    /// The nodes of the line: those linked, from the front on, are debts and requests that wait; the others were granted.
+    pub fn line(&self) -> &WaitList<WaitNode>
+        ensures shows { ShowsLine self.now result.now }
+        ensures lawful { IsLawful self.now }
+    {
+        self.store.line()
+    }
+
     /// A request for `n` permits, not polled yet.
     pub fn acquire(&self, n: u64) -> Acquire
         ensures { result ≡ new_request self.now.number n }
@@ -131,8 +144,9 @@ impl Semaphore {
         ensures order { KeepsOrder self.old.line self.new.line }
         ensures lawful { IsLawful self.new }
         ensures whole { OnOk result ((m : ℕ) → IsWhole m self.old → IsWhole (m + n) self.new) }
+        ensures visits { FewVisits self.old self.new steps.old steps.new }
     {
-        if self.store.release(n) {
+        if self.store.release(n, steps) {
             Ok(())
         } else {
             Err(ReleaseError::Overflow)
@@ -150,12 +164,9 @@ impl Semaphore {
         ensures ok { OnOk result (self.new ≡ reduced n self.old) }
         ensures err { OnErr result (self.new ≡ self.old) }
         ensures lawful { IsLawful self.new }
+        ensures visits { Visits 0 (2 * new_debts n self.old.line) steps.old steps.new }
     {
-        if self.store.reduce(n) {
-            Ok(())
-        } else {
-            Err(ReduceError::Debt)
-        }
+        self.store.reduce(n, steps)
     }
 
     /// Gives back what a permit has beyond `keep`. Then the line settles.
@@ -173,8 +184,9 @@ impl Semaphore {
         ensures order { KeepsOrder self.old.line self.new.line }
         ensures lawful { IsLawful self.new }
         ensures whole { StaysWhole self.old self.new }
+        ensures visits { FewVisits self.old self.new steps.old steps.new }
     {
-        self.store.give_back(p.permits() - keep);
+        self.store.give_back(p.permits() - keep, steps);
         let kept = SemaphorePermit::new(p.of(), keep);
         p.lose();
         kept
@@ -200,8 +212,9 @@ impl Semaphore {
         ensures order { KeepsOrder self.old.line self.new.line }
         ensures lawful { IsLawful self.new }
         ensures whole { StaysWhole self.old self.new }
+        ensures visits { FewVisits self.old self.new steps.old steps.new }
     {
-        self.store.give_back(p.permits());
+        self.store.give_back(p.permits(), steps);
         p.lose();
     }
 
@@ -215,30 +228,45 @@ impl Semaphore {
     }
 
     /// A first poll: it is served at once, or it joins under a new slot.
-    pub(crate) fn enter(&mut self, size: u64, waker: Waker) -> Result<Entrance, AllocError>
+    pub(crate) fn enter<L: Ledger>(
+        &mut self,
+        size: u64,
+        waker: Waker,
+        steps: &mut Steps<L>,
+    ) -> Result<Entrance, AllocError>
         ensures enters { Enters size waker.0 self.old result self.new }
         ensures lawful { IsLawful self.new }
+        ensures visits { EntersIn result steps.old steps.new }
     {
-        self.store.enter(size, waker)
+        self.store.enter(size, waker, steps)
     }
 
     /// A later poll, which tells how many permits it takes if it was granted.
-    pub(crate) fn poll_slot(&mut self, slot: u64, waker: Waker) -> Option<u64>
+    pub(crate) fn poll_slot<L: Ledger>(
+        &mut self,
+        slot: WaiterId,
+        waker: Waker,
+        steps: &mut Steps<L>,
+    ) -> Option<u64>
+        requires here { IsSome (entry_named (is_slot slot) (requests self.old.line)) }
         ensures polls { PollsSlot slot waker.0 self.old result self.new }
         ensures lawful { IsLawful self.new }
+        ensures visits { Visits 1 2 steps.old steps.new }
     {
-        self.store.poll_slot(slot, waker)
+        self.store.poll(slot, waker, steps)
     }
 
     /// Ends the request under this slot. Then the line settles.
-    pub(crate) fn cancel(&mut self, slot: u64)
+    pub(crate) fn cancel<L: Ledger>(&mut self, slot: WaiterId, steps: &mut Steps<L>)
+        requires here { IsSome (entry_named (is_slot slot) (requests self.old.line)) }
         ensures state { IsLike (without_request slot self.old) self.new }
         ensures others { LeavesOthers slot self.old self.new }
         ensures order { KeepsOrder self.old.line self.new.line }
         ensures lawful { IsLawful self.new }
         ensures whole { StaysWhole self.old self.new }
+        ensures visits { FewVisits self.old self.new steps.old steps.new }
     {
-        self.store.cancel(slot);
+        self.store.cancel(slot, steps);
     }
 
     /// Does nothing: a caller that changes nothing learns that the line is lawful.

@@ -1,14 +1,19 @@
 //! What a semaphore keeps: its counts, its line, and the wakers to wake.
-ghost use Rattle.std.specs.Prelude.{◌≡◌, ◌+◌, ◌≤◌, ◌↔◌, false, length, IsTrue, pos, ◌+ℤ◌};
+ghost use Rattle.std.specs.Prelude.{◌≡◌, ◌+◌, ◌*◌, ◌<◌, ◌≤◌, ◌↔◌, false, length, IsTrue, IsSome, pos, ◌+ℤ◌, IsOk, OnOk, OnErr, IsErrOf};
 ghost use Rattle.std.specs.Bool.{OnTrue};
-ghost use Rattle.band_balance.specs.Line.{nobody_waits, total, available, drained, overflows, owes_too_much, is_served, settle, withdraw, entry_named};
-ghost use Rattle.band_sem.specs.Semaphore.{is_slot, new_state, taken, given_back, forgotten, released, reduced, with_waker, without_request, TakesWake};
-ghost use Rattle.band_sem.specs.Kept.Store.{line_of, state_of, IsKept, IsSound, JoinsLine, Enters, PollsSlot, TakesGranted};
+ghost use Rattle.band_balance.specs.Line.{total, available, drained, overflows, owes_too_much, is_served, requests, entry_named};
+ghost use Rattle.band_line.specs.Visits.{Visits};
+ghost use Rattle.band_sem.specs.Semaphore.{IsLike, is_slot, new_state, new_debts, taken, given_back, forgotten, released, reduced, without_request, TakesWake};
+ghost use Rattle.band_sem.specs.Visits.{FewVisits};
+ghost use Rattle.band_sem.specs.Kept.Store.{line_in, state_of, CountsFit, IsSound, Enters, EntersIn, PollsSlot};
 
+use crate::ReduceError;
 use crate::balance::Balance;
-use crate::queue::Queue;
-use band_base::Waker;
+use band_base::{Steps, Waker};
+use band_line::{WaitList, WaiterId};
+use band_row::{Row, WaitNode};
 use std::alloc::{AllocError, Global};
+use std::sync::ledger::Ledger;
 
 /// How a first poll goes.
 #[derive(Drop)]
@@ -16,21 +21,20 @@ pub(crate) enum Entrance {
     /// It has its permits.
     Served,
     /// It waits under this slot.
-    Joined(u64),
+    Joined(WaiterId),
 }
 
-/// The state of a semaphore. Its queue is made when the first request joins, and stays from then on.
+/// The state of a semaphore.
 #[derive(Drop)]
 pub(crate) struct Store {
     free: Balance,
     number: u64,
     held: u64,
-    queue: Option<Box<Queue>>,
-    alloc: Global,
+    row: Row,
 }
 
 // A semaphore in which nobody ever waited takes no more than this.
-const _: () = prove!(size_of::<Store>() == 48);
+const _: () = prove!(size_of::<Store>() == 72);
 
 // An enum around it grows by 8 bytes, and not by 16.
 const _: () = prove!(align_of::<Store>() == 8);
@@ -45,8 +49,7 @@ impl Store {
             free: Balance::new(permits),
             number,
             held: 0,
-            queue: None,
-            alloc,
+            row: Row::new(alloc, permits),
         }
     }
 
@@ -69,45 +72,29 @@ impl Store {
     }
 
     pub(crate) fn granted_sum(&self) -> u64
-        requires { IsSound self.now }
-        ensures { result ≡ total (line_of self.now).granted }
+        ensures { result ≡ total (line_in self.now).granted }
     {
-        match &self.queue {
-            Some(queue) => queue.granted_sum(),
-            None => 0,
-        }
+        self.row.granted_sum()
     }
 
     pub(crate) fn waiting_count(&self) -> u64
-        requires { IsSound self.now }
-        ensures { result ≡ length (line_of self.now).waiting }
+        ensures { result ≡ length (line_in self.now).waiting }
     {
-        match &self.queue {
-            Some(queue) => queue.waiting_count(),
-            None => 0,
-        }
+        self.row.waiting_count()
     }
 
-    fn nobody_waits(&self) -> bool
-        requires { IsSound self.now }
-        ensures { result ≡ nobody_waits (line_of self.now).waiting }
+    pub(crate) fn line(&self) -> &WaitList<WaitNode>
+        ensures { result.now ≡ self.now.row.list }
     {
-        match &self.queue {
-            Some(queue) => queue.nobody_waits(),
-            None => true,
-        }
+        self.row.list()
     }
 
     /// How many may be taken without waiting.
     pub(crate) fn available(&self) -> u64
         requires { IsSound self.now }
-        ensures { result ≡ available (line_of self.now) }
+        ensures { result ≡ available (line_in self.now) }
     {
-        if self.nobody_waits() && self.free() > 0 {
-            self.free() as u64
-        } else {
-            0
-        }
+        self.row.word()
     }
 
     /// Takes the oldest waker to wake.
@@ -116,25 +103,23 @@ impl Store {
         ensures woken { TakesWake (state_of self.old) result (state_of self.new) }
         ensures sound { IsSound self.new }
     {
-        match &mut self.queue {
-            Some(queue) => queue.take_wake(),
-            None => None,
-        }
+        self.row.take_wake()
     }
 
     fn serves(&self, size: u64) -> bool
         requires { IsSound self.now }
-        ensures { result ≡ is_served size (line_of self.now) }
+        ensures { result ≡ is_served size (line_in self.now) }
     {
-        size == 0 || (self.nobody_waits() && i128::from(size) <= self.free())
+        size <= self.row.word()
     }
 
     fn serve(&mut self, size: u64)
         requires sound { IsSound self.old }
-        requires served { IsTrue (is_served size (line_of self.old)) }
+        requires served { IsTrue (is_served size (line_in self.old)) }
         ensures state { state_of self.new ≡ taken size (state_of self.old) }
         ensures sound { IsSound self.new }
     {
+        self.row.draw(size);
         self.free = Balance::of(self.free() - i128::from(size));
         self.held += size;
     }
@@ -142,7 +127,7 @@ impl Store {
     /// Serves at once, or changes nothing.
     pub(crate) fn try_serve(&mut self, size: u64) -> bool
         requires { IsSound self.old }
-        ensures served { result ≡ is_served size (line_of self.old) }
+        ensures served { result ≡ is_served size (line_in self.old) }
         ensures yes { OnTrue result (state_of self.new ≡ taken size (state_of self.old)) }
         ensures no { result ≡ false → state_of self.new ≡ state_of self.old }
         ensures sound { IsSound self.new }
@@ -154,20 +139,21 @@ impl Store {
         false
     }
 
-    /// Takes permits from the free ones, into debt where there are not as many.
+    /// Takes of what is available.
     fn take(&mut self, count: u64)
         requires sound { IsSound self.old }
-        requires debt { owes_too_much count (line_of self.old) ≡ false }
+        requires there { count ≤ available (line_in self.old) }
         ensures state { state_of self.new ≡ reduced count (state_of self.old) }
         ensures sound { IsSound self.new }
     {
+        self.row.draw(count);
         self.free = Balance::of(self.free() - i128::from(count));
     }
 
     /// Takes what is available, and no more than `up_to`.
     pub(crate) fn drain(&mut self, up_to: u64) -> u64
         requires { IsSound self.old }
-        ensures count { result ≡ drained up_to (line_of self.old) }
+        ensures count { result ≡ drained up_to (line_in self.old) }
         ensures state { state_of self.new ≡ reduced result (state_of self.old) }
         ensures sound { IsSound self.new }
     {
@@ -178,107 +164,123 @@ impl Store {
 
     fn owes_too_much(&self, count: u64) -> bool
         requires { IsSound self.now }
-        ensures { result ≡ owes_too_much count (line_of self.now) }
+        ensures { result ≡ owes_too_much count (line_in self.now) }
     {
         self.free() - i128::from(count) < -i128::from(u64::MAX)
     }
 
-    /// Takes permits from the free ones, into debt where there are not as many, or changes nothing where that is too much.
-    pub(crate) fn reduce(&mut self, count: u64) -> bool
-        requires { IsSound self.old }
-        ensures debt { result ≡ false ↔ IsTrue (owes_too_much count (line_of self.old)) }
-        ensures yes { OnTrue result (state_of self.new ≡ reduced count (state_of self.old)) }
-        ensures no { result ≡ false → state_of self.new ≡ state_of self.old }
+    /// Takes what is available, and owes the rest, where there is memory to keep the debt in.
+    fn owe<L: Ledger>(&mut self, count: u64, steps: &mut Steps<L>) -> Result<(), AllocError>
+        requires sound { IsSound self.old }
+        requires more { available (line_in self.old) < count }
+        requires debt { owes_too_much count (line_in self.old) ≡ false }
+        ensures ok { OnOk result (state_of self.new ≡ reduced count (state_of self.old)) }
+        ensures err { OnErr result (state_of self.new ≡ state_of self.old) }
         ensures sound { IsSound self.new }
+        ensures visits { Visits 0 (2 * new_debts count (line_in self.old)) steps.old steps.new }
     {
-        if self.owes_too_much(count) {
-            return false;
-        }
-        self.take(count);
-        true
+        self.row.owe(count, steps)?;
+        self.free = Balance::of(self.free() - i128::from(count));
+        Ok(())
     }
 
-    /// A request goes to the end of the line under a new slot, or there is no memory for it and nothing changes.
-    fn join(&mut self, size: u64, waker: Waker) -> Result<u64, AllocError>
-        requires sound { IsSound self.old }
-        requires waits { is_served size (line_of self.old) ≡ false }
-        ensures joins { JoinsLine size waker.0 (state_of self.old) result (state_of self.new) }
+    /// Takes permits from the free ones, into debt where there are not as many, or changes nothing.
+    pub(crate) fn reduce<L: Ledger>(
+        &mut self,
+        count: u64,
+        steps: &mut Steps<L>,
+    ) -> Result<(), ReduceError>
+        requires { IsSound self.old }
+        ensures debt { IsErrOf result ReduceError.Debt ↔ IsTrue (owes_too_much count (line_in self.old)) }
+        ensures no_memory { IsErrOf result ReduceError.NoMemory → available (line_in self.old) < count }
+        ensures ok { OnOk result (state_of self.new ≡ reduced count (state_of self.old)) }
+        ensures err { OnErr result (state_of self.new ≡ state_of self.old) }
         ensures sound { IsSound self.new }
+        ensures visits { Visits 0 (2 * new_debts count (line_in self.old)) steps.old steps.new }
     {
-        match &mut self.queue {
-            Some(queue) => queue.join(size, waker),
-            None => {
-                let mut queue = Queue::new(self.alloc);
-                let slot = queue.join(size, waker)?;
-                self.queue = Some(Box::new(self.alloc, queue)?);
-                Ok(slot)
-            }
+        if self.owes_too_much(count) {
+            return Err(ReduceError::Debt);
+        }
+        if count <= self.available() {
+            self.take(count);
+            return Ok(());
+        }
+        match self.owe(count, steps) {
+            Ok(()) => Ok(()),
+            Err(_) => Err(ReduceError::NoMemory),
         }
     }
 
     /// Serves a first poll at once, or lets it join under a new slot.
-    pub(crate) fn enter(&mut self, size: u64, waker: Waker) -> Result<Entrance, AllocError>
+    pub(crate) fn enter<L: Ledger>(
+        &mut self,
+        size: u64,
+        waker: Waker,
+        steps: &mut Steps<L>,
+    ) -> Result<Entrance, AllocError>
         requires { IsSound self.old }
         ensures enters { Enters size waker.0 (state_of self.old) result (state_of self.new) }
         ensures sound { IsSound self.new }
+        ensures visits { EntersIn result steps.old steps.new }
     {
         if self.serves(size) {
             self.serve(size);
             return Ok(Entrance::Served);
         }
-        let slot = self.join(size, waker)?;
+        let slot = self.row.enqueue(size, waker, steps)?;
         Ok(Entrance::Joined(slot))
-    }
-
-    /// Grants from the front of the line while the first asks for no more than is free.
-    fn settle(&mut self)
-        requires { IsKept self.old }
-        ensures state { state_of self.new ≡ record (state_of self.old) { line = settle (line_of self.old) } }
-        ensures sound { IsSound self.new }
-    {
-        if let Some(queue) = &mut self.queue {
-            self.free = Balance::of(queue.settle(self.free.get()));
-        }
     }
 
     /// All permits that there are: those free, granted and held.
     fn in_all(&self) -> i128
         requires { IsSound self.now }
-        ensures { result ≡ self.now.free +ℤ pos (total (line_of self.now).granted + self.now.held) }
+        ensures { result ≡ self.now.free +ℤ pos (total (line_in self.now).granted + self.now.held) }
     {
         self.free() + i128::from(self.granted_sum()) + i128::from(self.held)
     }
 
     fn overflows(&self, count: u64) -> bool
         requires { IsSound self.now }
-        ensures { result ≡ overflows count (line_of self.now) self.now.held }
+        ensures { result ≡ overflows count (line_in self.now) self.now.held }
     {
         self.in_all() + i128::from(count) > i128::from(u64::MAX)
     }
 
     /// Adds permits to the free ones. Then the line settles.
-    fn add(&mut self, count: u64)
+    fn add<L: Ledger>(&mut self, count: u64, steps: &mut Steps<L>)
         requires sound { IsSound self.old }
-        requires fits { overflows count (line_of self.old) self.old.held ≡ false }
-        ensures state { state_of self.new ≡ released count (state_of self.old) }
+        requires fits { overflows count (line_in self.old) self.old.held ≡ false }
+        ensures state { IsLike (released count (state_of self.old)) (state_of self.new) }
         ensures sound { IsSound self.new }
+        ensures visits { FewVisits (state_of self.old) (state_of self.new) steps.old steps.new }
     {
-        self.free = Balance::of(self.free() + i128::from(count));
-        self.settle();
+        let all = self.in_all() + i128::from(count);
+        self.row.pass_on(count, steps);
+        self.free = self.free_of(all);
+    }
+
+    /// What is free where there are so many in all.
+    fn free_of(&self, all: i128) -> Balance
+        requires all { all ≡ (line_in self.now).free +ℤ pos (total (line_in self.now).granted + self.now.held) }
+        requires fit { CountsFit self.now.held (line_in self.now).free (total (line_in self.now).granted) }
+        ensures { result ≡ (line_in self.now).free }
+    {
+        Balance::of(all - i128::from(self.granted_sum()) - i128::from(self.held))
     }
 
     /// Adds permits, or changes nothing where they would be too many. Then the line settles.
-    pub(crate) fn release(&mut self, count: u64) -> bool
+    pub(crate) fn release<L: Ledger>(&mut self, count: u64, steps: &mut Steps<L>) -> bool
         requires { IsSound self.old }
-        ensures overflow { result ≡ false ↔ IsTrue (overflows count (line_of self.old) self.old.held) }
-        ensures yes { OnTrue result (state_of self.new ≡ released count (state_of self.old)) }
+        ensures overflow { result ≡ false ↔ IsTrue (overflows count (line_in self.old) self.old.held) }
+        ensures yes { OnTrue result (IsLike (released count (state_of self.old)) (state_of self.new)) }
         ensures no { result ≡ false → state_of self.new ≡ state_of self.old }
         ensures sound { IsSound self.new }
+        ensures visits { FewVisits (state_of self.old) (state_of self.new) steps.old steps.new }
     {
         if self.overflows(count) {
             return false;
         }
-        self.add(count);
+        self.add(count, steps);
         true
     }
 
@@ -293,87 +295,45 @@ impl Store {
     }
 
     /// Gives back permits that were held.
-    pub(crate) fn give_back(&mut self, count: u64)
+    pub(crate) fn give_back<L: Ledger>(&mut self, count: u64, steps: &mut Steps<L>)
         requires sound { IsSound self.old }
         requires held { count ≤ self.old.held }
-        ensures state { state_of self.new ≡ given_back count (state_of self.old) }
+        ensures state { IsLike (given_back count (state_of self.old)) (state_of self.new) }
         ensures sound { IsSound self.new }
+        ensures visits { FewVisits (state_of self.old) (state_of self.new) steps.old steps.new }
     {
         self.forget(count);
-        self.add(count);
-    }
-
-    /// Takes the one that was granted under this slot out of the line, and tells its size.
-    fn take_granted(&mut self, slot: u64) -> Option<u64>
-        requires { IsSound self.old }
-        ensures takes { TakesGranted slot (state_of self.old) result (state_of self.new) }
-        ensures sound { IsSound self.new }
-    {
-        match &mut self.queue {
-            Some(queue) => queue.take_granted(slot),
-            None => None,
-        }
-    }
-
-    /// A request that waits under this slot, if there is one, leaves its new waker.
-    fn leave_waker(&mut self, slot: u64, waker: Waker)
-        requires { IsSound self.old }
-        ensures state { state_of self.new ≡ with_waker slot waker.0 (state_of self.old) }
-        ensures sound { IsSound self.new }
-    {
-        if let Some(queue) = &mut self.queue {
-            queue.leave_waker(slot, waker);
-        }
-    }
-
-    /// A request that waits under this slot, if there is one, leaves the line.
-    fn take_waiting(&mut self, slot: u64)
-        requires { IsSound self.old }
-        ensures state { state_of self.new ≡ record (state_of self.old) { line = withdraw None (is_slot slot) (line_of self.old) } }
-        ensures kept { IsKept self.new }
-    {
-        if let Some(queue) = &mut self.queue {
-            queue.take_waiting(slot);
-        }
+        self.add(count, steps);
     }
 
     /// One that was granted takes its permits, whose count is told, and one that waits leaves its new waker.
-    pub(crate) fn poll_slot(&mut self, slot: u64, waker: Waker) -> Option<u64>
-        requires { IsSound self.old }
+    pub(crate) fn poll<L: Ledger>(
+        &mut self,
+        slot: WaiterId,
+        waker: Waker,
+        steps: &mut Steps<L>,
+    ) -> Option<u64>
+        requires sound { IsSound self.old }
+        requires here { IsSome (entry_named (is_slot slot) (requests (line_in self.old))) }
         ensures polls { PollsSlot slot waker.0 (state_of self.old) result (state_of self.new) }
         ensures sound { IsSound self.new }
+        ensures visits { Visits 1 2 steps.old steps.new }
     {
-        match self.take_granted(slot) {
-            Some(size) => {
-                self.held += size;
-                Some(size)
-            }
-            None => {
-                self.leave_waker(slot, waker);
-                None
-            }
-        }
-    }
-
-    /// The request under this slot leaves. One that was granted gives its size back.
-    fn withdraw(&mut self, slot: u64)
-        requires { IsSound self.old }
-        ensures state { state_of self.new ≡ record (state_of self.old) { line = withdraw (entry_named (is_slot slot) (line_of self.old).granted) (is_slot slot) (line_of self.old) } }
-        ensures kept { IsKept self.new }
-    {
-        match self.take_granted(slot) {
-            Some(size) => self.free = Balance::of(self.free() + i128::from(size)),
-            None => self.take_waiting(slot),
-        }
+        let size = self.row.poll(slot, waker, steps)?;
+        self.held += size;
+        Some(size)
     }
 
     /// Ends the request under this slot. Then the line settles.
-    pub(crate) fn cancel(&mut self, slot: u64)
-        requires { IsSound self.old }
-        ensures state { state_of self.new ≡ without_request slot (state_of self.old) }
+    pub(crate) fn cancel<L: Ledger>(&mut self, slot: WaiterId, steps: &mut Steps<L>)
+        requires sound { IsSound self.old }
+        requires here { IsSome (entry_named (is_slot slot) (requests (line_in self.old))) }
+        ensures state { IsLike (without_request slot (state_of self.old)) (state_of self.new) }
         ensures sound { IsSound self.new }
+        ensures visits { FewVisits (state_of self.old) (state_of self.new) steps.old steps.new }
     {
-        self.withdraw(slot);
-        self.settle();
+        let all = self.in_all();
+        self.row.cancel(slot, steps);
+        self.free = self.free_of(all);
     }
 }

@@ -2,6 +2,7 @@
 #![tactic(auto)]
 
 pub mod channels;
+pub mod conditions;
 pub mod counter;
 pub mod devices;
 pub mod ids;

@@ -3,7 +3,8 @@ use Rattle.std.specs.Prelude.{◌≡◌, ◌≢◌, ℕ, List, ◌∷◌, ◌++�
 use Rattle.std.specs.Borrow.{Bor}
 use Rattle.band_script.specs.declared.call.Call.{Call}
 use Rattle.band_script.specs.declared.form.Form.{Form}
-use Rattle.band_script.specs.declared.form.Form.TheVariants.{OneName, NameNumber, TwoNames, TwoNamesNumber, Rw, Ask}
+use Rattle.band_script.specs.declared.form.Form.TheVariants.{OneName, NameNumber, TwoNames, TwoNamesNumber}
+use Rattle.band_script.specs.declared.form.Form.TheVariants.{Rw, Ask}
 use Rattle.band_script.specs.declared.form.NameNumber.TheVariants as name_number
 use Rattle.band_script.specs.declared.form.OneName.TheVariants as one_name
 use Rattle.band_script.specs.declared.form.TwoNames.TheVariants as two_names

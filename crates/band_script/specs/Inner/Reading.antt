@@ -1,17 +1,25 @@
 -- The reading of a line, step by step.
-use Rattle.std.specs.Prelude.{◌≡◌, ◌≢◌, ℕ, ◌≤◌, ◌^◌, drop, List, [], ◌∷◌, ◌++◌, Option, Some, None, IsTrue}
+use Rattle.std.specs.Prelude.{◌≡◌, ◌≢◌, ℕ, ◌≤◌, ◌^◌, Bool, ◌&&◌, drop, map, List, [], ◌∷◌, ◌++◌, Option, Some}
+use Rattle.std.specs.Prelude.{None, IsTrue}
 use Rattle.std.specs.Borrow.{Bor}
 use Rattle.std.specs.Fmt.{decimal}
 use Rattle.std.specs.Char.{is_ascii_digit}
-use Rattle.std.specs.List.{prefix_len, take_while}
+use Rattle.std.specs.List.{list_all, prefix_len, take_while}
 use Rattle.std.specs.Option.{option_to_list}
 use Rattle.std.specs.Str.Parse.{digits_value}
 use Rattle.band_script.specs.declared.call.Call.{Call}
 use Rattle.band_script.specs.declared.words.Words.{Words}
-use Rattle.band_script.specs.Call.{are_operands, operands}
 use Rattle.band_script.specs.Grammar.{IsLine, words_of}
-use Rattle.band_script.specs.Name.{IsName}
-use Rattle.band_script.specs.Number.{IsNumber}
+use Rattle.band_script.specs.Name.{IsName, is_name}
+use Rattle.band_script.specs.Number.{IsNumber, is_number}
+
+-- names, and then numbers in decimal
+abbrev pub operands : List (List ℕ) → List ℕ → List (List ℕ)
+operands names numbers = names ++ map decimal numbers
+
+-- each name is one, and each number
+abbrev pub are_operands : List (List ℕ) → List ℕ → Bool
+are_operands names numbers = list_all is_name names && list_all is_number numbers
 
 -- what may follow a word: nothing, or a space and more
 abbrev pub Ends : List ℕ → Type 0

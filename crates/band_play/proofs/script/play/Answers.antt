@@ -1,11 +1,12 @@
-use Rattle.std.proofs.Common.{◌≤◌, [], length, ap, length-take, refl, arith}
+use Rattle.std.proofs.Common.{◌≤◌, [], length, take, ap, length-take, refl, arith}
 use Rattle.std.proofs.lemmas.Result.{err_from_is_err_and}
 use Rattle.band_play.specs.Play.{End, end_of}
 use Rattle.band_play.proofs.Answering.{answers_read, answers_end, answers_over, answers_fault, so_far_more, keeps_up, keeps_up_still, nothing_given, front_fault, front_over, none_in}
+use Rattle.band_play.proofs.Visits.{few_taken, few_at_end, few_by_fault}
 use Rattle.band_play.proofs.script.play.Goals as goal
 
-pub returns-in_err-given : goal.returns-in_err-given
-returns-in_err-given g c =
+pub returns-in_err-given-clause-plays : goal.returns-in_err-given-clause-plays
+returns-in_err-given-clause-plays g c =
     let p = err_from_is_err_and c.from_residual.result c.from_residual.ensures.1 in
     let source : End = end_of g.S.Source.left g.S.Source.faults c.args.src.now c.read_piece.new.src in
     let sink : End = end_of g.D.Sink.written g.D.Sink.faults c.args.dst.now c.pieces.dst in
@@ -16,8 +17,8 @@ returns-in_err-given g c =
       writes_never_fall = c.pieces.invariant.writes_never_fall;
     })
 
-pub returns-then-is_empty : goal.returns-then-is_empty
-returns-then-is_empty g c =
+pub returns-then-is_empty-clause-plays : goal.returns-then-is_empty-clause-plays
+returns-then-is_empty-clause-plays g c =
     let none = none_in c.in_ok-given.given.now c.if-is_empty.ensures in
     let source : End = end_of g.S.Source.left g.S.Source.faults c.args.src.now c.read_piece.new.src in
     let sink : End = end_of g.D.Sink.written g.D.Sink.faults c.args.dst.now c.pieces.dst in
@@ -28,8 +29,8 @@ returns-then-is_empty g c =
       writes_never_fall = c.pieces.invariant.writes_never_fall;
     })
 
-pub returns-in_err-feed : goal.returns-in_err-feed
-returns-in_err-feed g c =
+pub returns-in_err-feed-clause-plays : goal.returns-in_err-feed-clause-plays
+returns-in_err-feed-clause-plays g c =
     let p = err_from_is_err_and c.from_residual-in_err-feed.result c.from_residual-in_err-feed.ensures.1 in
     let source : End = end_of g.S.Source.left g.S.Source.faults c.args.src.now c.read_piece.new.src in
     let sink : End = end_of g.D.Sink.written g.D.Sink.faults c.args.dst.now c.feed.new.dst in
@@ -43,8 +44,8 @@ returns-in_err-feed g c =
       writes_never_fall = omega (arith, c.feed.ensures.never_fall, c.pieces.invariant.writes_never_fall);
     })
 
-pub returns-then-given-left : goal.returns-then-given-left
-returns-then-given-left g c =
+pub returns-then-given-left-clause-plays : goal.returns-then-given-left-clause-plays
+returns-then-given-left-clause-plays g c =
     let source : End = end_of g.S.Source.left g.S.Source.faults c.args.src.now c.read_piece.new.src in
     let sink : End = end_of g.D.Sink.written g.D.Sink.faults c.args.dst.now c.feed.new.dst in
     record {
@@ -66,6 +67,45 @@ pieces-preserved g c =
           c.in_ok-given.ensures.front fits (omega arith) c.within.ensures c.in_ok-feed.ensures.plays;
       quiet = c.in_ok-feed.ensures.quiet;
       count = omega (arith, c.in_ok-feed.ensures.lines, c.pieces.invariant.count);
+      no_fewer = omega (arith, c.pieces.invariant.no_fewer, c.feed.ensures.visits.no_fewer);
+      visits = omega (arith, c.pieces.invariant.visits, c.feed.ensures.visits.no_more, c.in_ok-feed.ensures.counted);
       reads_never_fall = omega (arith, c.read_piece.ensures.never_fall, c.pieces.invariant.reads_never_fall);
       writes_never_fall = omega (arith, c.feed.ensures.never_fall, c.pieces.invariant.writes_never_fall);
     }
+
+pub returns-in_err-given-clause-visits : goal.returns-in_err-given-clause-visits
+returns-in_err-given-clause-visits g c =
+    let p = err_from_is_err_and c.from_residual.result c.from_residual.ensures.1 in
+    rw (p.1, p.2) (record {
+      no_fewer = c.pieces.invariant.no_fewer;
+      answered = tt;
+      taken = few_taken _ _ c.args.steps.now c.pieces.steps [] (take c.pieces.left []) c.pieces.playing _ _ _ _ _ c.pieces.invariant.so_far (nothing_given [] _ _ c.in_err-given.ensures.err refl) refl
+          (omega (arith, c.pieces.invariant.visits));
+    })
+
+pub returns-then-is_empty-clause-visits : goal.returns-then-is_empty-clause-visits
+returns-then-is_empty-clause-visits g c =
+    rw c.end.ensures (record {
+      no_fewer = c.pieces.invariant.no_fewer;
+      answered = few_at_end c.args.steps.now c.pieces.steps c.pieces.playing.lines c.pieces.playing.held (omega (arith, c.pieces.invariant.visits));
+      taken = few_taken _ _ c.args.steps.now c.pieces.steps c.in_ok-given.given.now (take c.pieces.left c.in_ok-given.given.now) c.pieces.playing _ _ _ _ _ c.pieces.invariant.so_far
+          c.in_ok-given.ensures.front refl (omega (arith, c.pieces.invariant.visits));
+    })
+
+pub returns-in_err-feed-clause-visits : goal.returns-in_err-feed-clause-visits
+returns-in_err-feed-clause-visits g c =
+    let p = err_from_is_err_and c.from_residual-in_err-feed.result c.from_residual-in_err-feed.ensures.1 in
+    rw (p.1, p.2) (record {
+      no_fewer = omega (arith, c.pieces.invariant.no_fewer, c.feed.ensures.visits.no_fewer);
+      answered = few_by_fault c.in_err-feed.field-0.0 c.args.steps.now c.pieces.steps c.feed.new.steps c.pieces.playing c.pieces.invariant.visits c.in_err-feed.ensures.fault;
+      taken = few_taken _ _ c.args.steps.now c.feed.new.steps c.in_ok-given.given.now c.within.result.now c.pieces.playing _ _ _ _ _ c.pieces.invariant.so_far
+          c.in_ok-given.ensures.front c.within.ensures (omega (arith, c.pieces.invariant.visits, c.feed.ensures.visits.no_more));
+    })
+
+pub returns-then-given-left-clause-visits : goal.returns-then-given-left-clause-visits
+returns-then-given-left-clause-visits g c = record {
+  no_fewer = omega (arith, c.pieces.invariant.no_fewer, c.feed.ensures.visits.no_fewer);
+  answered = tt;
+  taken = few_taken _ _ c.args.steps.now c.feed.new.steps c.in_ok-given.given.now c.within.result.now c.pieces.playing _ _ _ _ _ c.pieces.invariant.so_far
+      c.in_ok-given.ensures.front c.within.ensures (omega (arith, c.pieces.invariant.visits, c.feed.ensures.visits.no_more));
+}

@@ -1,12 +1,11 @@
 use Rattle.std.proofs.Common.{◌≡◌, true, false, Some, ap, sym, ◌∙◌, subst}
 use Rattle.band_event.specs.Event.{is_queued, all_called}
-use Rattle.band_event.proofs.Lines.{in_first}
 use Rattle.band_event.proofs.Queues.{all-called, stay-called, StaysAt}
 use Rattle.band_event.proofs.queue.Queue.call_first.Goals as goal
 
 pub unreachable-requires : goal.unreachable-requires
 unreachable-requires g c =
-    let linked = in_first c.self.inside.list.linked c.in-Some.first (sym c.first.ensures.first ∙ c.in-Some.is) in
+    let linked = rw c.in-Some.is at c.first.ensures.linked in
     let was = c.call.ensures.was ∙ ap Some c.in-Called.is in
     let never : false ≡ true = ap is_queued (sym was) ∙ c.self.invariant.queued c.in-Some.first ∙ linked in
     cc

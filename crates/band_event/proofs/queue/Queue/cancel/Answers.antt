@@ -7,7 +7,7 @@ use Rattle.band_event.proofs.queue.Queue.cancel.Goals as goal
 pub invariant_of-self : goal.invariant_of-self
 invariant_of-self g c =
     kept-queued (record { line = c.self.inside.list; wakes = c.self.inside.wakes.wakers }) c.call-place.new.list c.remove_unlinked_waiter.new.self
-    c.args.id c.self.inside.waiting c.self.inside.wakes.spare c.in-Queued.field-0 c.self.invariant c.call-place.ensures.sound c.call-place.ensures.state
+    c.args.id c.self.inside.waiting c.self.inside.wakes.spare c.in-Queued.field-0 c.self.invariant c.call-place.ensures.state
     (c.call-place.ensures.was ∙ ap Some c.in-Queued.is)
     c.remove_unlinked_waiter.ensures.state c.remove_unlinked_waiter.ensures.vacant c.remove_unlinked_waiter.ensures.others
 

@@ -1,7 +1,6 @@
 use Rattle.std.proofs.Common.{◌≡◌, None, Some, ap}
 use Rattle.band_player.specs.Apart.{at}
 use Rattle.band_player.specs.Names.{is_object}
-use Rattle.band_player.specs.Token.{thing_of}
 use Rattle.band_player.proofs.Updates.{free_of_object, token_set, apart_added, if_ok}
 use Rattle.band_player.proofs.names.Names.ask.Goals as goal
 
@@ -18,7 +17,7 @@ pub returns-clause-ok : goal.returns-clause-ok
 returns-clause-ok g c =
     let free : at c.args.self.now.objects c.args.name ≡ None = free_of_object c.args.self.now c.args.name (ap is_object c.requires.free) in
     if_ok c.ask.result c.ask.ensures.ok (λ reply added. record {
-      left = thing_of added.0;
-      asked = added.1;
+      left = added.0;
+      polled = added.1;
       updated = token_set c.args.self.now c.args.name c.ask.new.self (Some added.0) free added.2;
     })

@@ -1,29 +1,43 @@
-use Rattle.std.proofs.Common.{◌≡◌, ◌+◌, Some, ap, ◌∙◌, subst, rules}
+use Rattle.std.proofs.Common.{◌≡◌, ◌+◌, Some, Ok, ap, ap₂, sym, ◌∙◌, subst, arith, rules}
 use Rattle.band_balance.specs.Object.{Permit}
 use Rattle.band_player.specs.Apart.{at, Sets}
-use Rattle.band_player.specs.Token.{TokenState, Holding}
 use Rattle.band_player.specs.Moves.{held_as}
+use Rattle.band_player.specs.Objects.{HoldingState}
+use Rattle.band_player.specs.Thing.{place_at}
+use Rattle.band_player.specs.Token.{TokenState, Holding, thing_of, count_of, counted}
+use Rattle.band_player.proofs.Named.{held_token}
 use Rattle.band_player.proofs.Updates.{no_object, token_there, token_set, apart_set}
 use Rattle.band_player.proofs.names.Names.grow.Goals as goal
 
+pub join-requires : goal.join-requires
+join-requires c =
+    let was : at c.args.self.now.tokens c.args.name.now ≡ Some c.take-permit.result = search rules in
+    let found = token_there c.args.self.now c.args.name.now c.take-permit.result was in
+    let held = held_token Permit c.take-permit.result c.requires.whole (ap (held_as Permit) (sym found) ∙ c.requires.is) in
+    let count : count_of c.take-permit.result ≡ c.requires.whole.count = ap count_of held.0 in
+    record { mode = held.1; more = c.requires.mode; same = ap (λ t. place_at (thing_of t)) held.0 ∙ c.requires.same; fits = omega arith }
+
 pub invariant_of-self : goal.invariant_of-self
 invariant_of-self c =
-    let was : at c.args.self.now.tokens c.args.name.now ≡ Some c.take.result = search rules in
+    let was : at c.args.self.now.tokens c.args.name.now ≡ Some c.take-permit.result = search rules in
     record {
       apart =
-          apart_set c.args.self.now c.args.name.now (c.get_mut.follows.lender c.fill.new.self) (Some c.fill.new.self) (no_object c.args.self.now c.args.name.now c.take.result was)
+          apart_set c.args.self.now c.args.name.now (c.get_mut.follows.lender c.fill.new.self) (Some c.fill.new.self) (no_object c.args.self.now c.args.name.now c.take-permit.result was)
           (c.get_mut.follows.holds c.fill.new.self (search rules));
     }
 
 pub returns : goal.returns
 returns c =
-    let was : at c.args.self.now.tokens c.args.name.now ≡ Some c.take.result = search rules in
-    let left : c.fill.new.self ≡ Holding (record c.into_permit-permit.result { count = c.into_permit-permit.result.count + c.args.more.count }) = c.fill.ensures ∙ c.of_holding.ensures ∙ ap Holding c.join.ensures in
+    let was : at c.args.self.now.tokens c.args.name.now ≡ Some c.take-permit.result = search rules in
+    let found = token_there c.args.self.now c.args.name.now c.take-permit.result was in
+    let held = held_token Permit c.take-permit.result c.requires.whole (ap (held_as Permit) (sym found) ∙ c.requires.is) in
+    let left : c.fill.new.self ≡ Holding (record c.requires.whole { count = c.requires.whole.count + count_of c.args.more }) =
+    c.fill.ensures ∙ c.join.ensures ∙ ap (λ (t : TokenState). counted (count_of t + count_of c.args.more) t) held.0 in
     record {
-      whole = c.into_permit-permit.result;
-      was = ap (held_as Permit) (token_there c.args.self.now c.args.name.now c.take.result was) ∙ c.into_permit-permit.ensures;
+      whole = c.requires.whole;
+      was = c.requires.is;
       updated =
-          token_set c.args.self.now c.args.name.now (c.get_mut.follows.lender c.fill.new.self) _ (no_object c.args.self.now c.args.name.now c.take.result was)
+          token_set c.args.self.now c.args.name.now (c.get_mut.follows.lender c.fill.new.self) _ (no_object c.args.self.now c.args.name.now c.take-permit.result was)
           (subst (λ (t : TokenState). Sets c.args.self.now.tokens (c.get_mut.follows.lender c.fill.new.self) c.args.name.now (Some t)) left
           (c.get_mut.follows.holds c.fill.new.self (search rules)));
     }

@@ -1,4 +1,4 @@
-use Rattle.std.proofs.Common.{Some, ap, ◌∙◌, subst, rules}
+use Rattle.std.proofs.Common.{Some, ap, subst, rules}
 use Rattle.band_player.specs.Apart.{Sets}
 use Rattle.band_player.specs.Names.{is_object}
 use Rattle.band_player.specs.Token.{TokenState}
@@ -15,5 +15,5 @@ invariant_of-self c = record {
 pub returns : goal.returns
 returns c =
     token_set c.args.self.now c.args.name.now (c.get_mut.follows.lender c.fill.new.self) _ (free_of_object c.args.self.now c.args.name.now (ap is_object c.requires))
-    (subst (λ (t : TokenState). Sets c.args.self.now.tokens (c.get_mut.follows.lender c.fill.new.self) c.args.name.now (Some t)) (c.fill.ensures ∙ c.of_holding.ensures)
+    (subst (λ (t : TokenState). Sets c.args.self.now.tokens (c.get_mut.follows.lender c.fill.new.self) c.args.name.now (Some t)) c.fill.ensures
     (c.get_mut.follows.holds c.fill.new.self (search rules)))

@@ -46,8 +46,10 @@ returns-clause-sound c = sound_after c.args.self.now _ (make_call c.args.new c.a
 
 pub returns-in_err-reserve-clause-works : goal.returns-in_err-reserve-clause-works
 returns-in_err-reserve-clause-works c =
-    on_err c.from_residual.result _ (λ state stands. works_make c.args.self.now c.requires.quiet state stands c.args.new c.args.made (free_name _ c.is_live.result c.is_live.ensures.1 c.if-is_live.false))
+    on_err c.from_residual.result _ (λ state stands. works_make c.args.self.now c.requires.quiet state stands c.args.new c.args.made
+    (free_name _ c.is_live.result c.is_live.ensures.1 c.if-is_live.false))
 
 pub returns-in_err-add_object-clause-works : goal.returns-in_err-add_object-clause-works
 returns-in_err-add_object-clause-works c =
-    on_err c.from_residual-in_err-add_object.result _ (λ state stands. works_make c.args.self.now c.requires.quiet state stands c.args.new c.args.made (free_name _ c.is_live.result c.is_live.ensures.1 c.if-is_live.false))
+    on_err c.from_residual-in_err-add_object.result _ (λ state stands. works_make c.args.self.now c.requires.quiet state stands c.args.new c.args.made
+    (free_name _ c.is_live.result c.is_live.ensures.1 c.if-is_live.false))

@@ -15,7 +15,8 @@ use Rattle.band_player.proofs.table.Table.reduce.Goals as goal
 
 pub returns-in-Err-clause-follows : goal.returns-in-Err-clause-follows
 returns-in-Err-clause-follows g c = λ state stands.
-    refused_for c.args.self.now c.requires.quiet state stands c.args.self.now (λ n. refl) refl (calls.Reduce c.args.of.now c.args.n) Permit c.args.of.now c.in-Err.refusal (sym c.object_for.ensures ∙ c.in-Err.is) _ refl
+    refused_for c.args.self.now c.requires.quiet state stands c.args.self.now (λ n. refl) refl (calls.Reduce c.args.of.now c.args.n) Permit c.args.of.now c.in-Err.refusal
+    (sym c.object_for.ensures ∙ c.in-Err.is) _ refl
 
 pub index_mut-object-requires : goal.index_mut-object-requires
 index_mut-object-requires g c = let within = object_within c.args.self.now c.requires.sound Permit c.args.of.now c.in-Ok.place (sym c.object_for.ensures ∙ c.in-Ok.is) in omega arith
@@ -24,7 +25,8 @@ pub returns-in-Ok-reduce-clause-follows : goal.returns-in-Ok-reduce-clause-follo
 returns-in-Ok-reduce-clause-follows g c = λ state stands.
     let is = sym c.object_for.ensures ∙ c.in-Ok.is in
     let object = c.index_mut-object.result.now in
-    reduces c.args.self.now c.requires.quiet state stands (record { names = c.args.self.now.names; objects = with_item c.args.self.now.objects c.in-Ok.place c.reduce.new.self; last = c.in-Ok.place }) (λ n. refl)
+    reduces c.args.self.now c.requires.quiet state stands (record { names = c.args.self.now.names; objects = with_item c.args.self.now.objects c.in-Ok.place c.reduce.new.self; last = c.in-Ok.place })
+    (λ n. refl)
     c.args.of.now c.in-Ok.place object (object_read c.args.self.now c.requires.sound Permit c.args.of.now c.in-Ok.place is object c.index_mut-object.ensures.value) is c.args.n c.reduce.new.self
     (unless_err c.reduce.result _ _ Debt c.in-Ok-reduce.is c.reduce.ensures.debt.1) c.in-Ok-reduce.ensures.ok c.reduce.ensures.steady refl refl
 
@@ -36,7 +38,11 @@ returns-in-Err-Debt-clause-follows g c = λ state stands.
     let is = sym c.object_for.ensures ∙ c.in-Ok.is in
     let object = c.index_mut-object.result.now in
     let there = object_read c.args.self.now c.requires.sound Permit c.args.of.now c.in-Ok.place is object c.index_mut-object.ensures.value in
-    debt_refused c.args.self.now c.requires.quiet state stands (record { names = c.args.self.now.names; objects = with_item c.args.self.now.objects c.in-Ok.place c.reduce.new.self; last = c.in-Ok.place }) (λ n. refl)
+    debt_refused c.args.self.now c.requires.quiet state stands (record {
+      names = c.args.self.now.names;
+      objects = with_item c.args.self.now.objects c.in-Ok.place c.reduce.new.self;
+      last = c.in-Ok.place;
+    }) (λ n. refl)
     c.args.of.now c.in-Ok.place object there is c.args.n (c.reduce.ensures.debt.0 (c.in-Err-Debt.is ∙ ap Err c.in-Err-Debt.field-0-is))
     (ap (slice_set c.args.self.now.objects.items c.in-Ok.place) c.in-Err-Debt.ensures.err ∙ set_itself c.args.self.now.objects.items c.in-Ok.place object there)
 

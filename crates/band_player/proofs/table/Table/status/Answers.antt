@@ -31,7 +31,8 @@ returns c = λ state stands.
     let within = fits_in c.args.self.now c.args.name.now (things.Object c.in-Ok.place) c.requires.sound (object_from _ c.in-Ok.place is) in
     let there : slice_get c.args.self.now.objects.items c.in-Ok.place ≡ Some object = slice_get_read c.args.self.now.objects.items _ c.in-Ok.place object refl within c.index.ensures in
     subst (λ (r : Reply). FollowsFrom (calls.Status c.args.name.now) r c.args.self.now state)
-    (sym (same_figures _ _ _ _ _ _ _ _ _ _ (c.available_permits.ensures.count ∙ ap (λ (s : SemaphoreState). available s.line) same) (to_z-of_z fits ∙ c.free.ensures.count ∙ ap (λ (s : SemaphoreState). s.line.free) same)
+    (sym (same_figures _ _ _ _ _ _ _ _ _ _ (c.available_permits.ensures.count ∙ ap (λ (s : SemaphoreState). available s.line) same)
+    (to_z-of_z fits ∙ c.free.ensures.count ∙ ap (λ (s : SemaphoreState). s.line.free) same)
     (c.waiting_count.ensures.count ∙ ap (λ (s : SemaphoreState). length s.line.waiting) same) (c.granted_permits.ensures.count ∙ ap (λ (s : SemaphoreState). total s.line.granted) same)
     (c.held_permits.ensures.count ∙ ap (λ (s : SemaphoreState). s.held) same)))
     (figures c.args.self.now c.requires.quiet state stands c.args.self.now (λ n. refl) c.args.name.now c.in-Ok.place object there is refl)

@@ -17,14 +17,16 @@ use Rattle.band_player.proofs.table.Table.try_for.Goals as goal
 
 pub returns-in-Err-clause-follows : goal.returns-in-Err-clause-follows
 returns-in-Err-clause-follows c = λ state stands.
-    refused_for c.args.self.now c.requires.quiet state stands c.args.self.now (λ n. refl) refl (try_call c.args.want c.args.made c.args.of.now) (mode_of c.args.want) c.args.of.now c.in-Err.refusal (sym c.object_for.ensures ∙ c.in-Err.is) _
+    refused_for c.args.self.now c.requires.quiet state stands c.args.self.now (λ n. refl) refl (try_call c.args.want c.args.made c.args.of.now) (mode_of c.args.want) c.args.of.now c.in-Err.refusal
+    (sym c.object_for.ensures ∙ c.in-Err.is) _
     (plan_tries c.args.want c.args.made c.args.of.now state)
 
 pub returns-then-is_live-clause-follows : goal.returns-then-is_live-clause-follows
 returns-then-is_live-clause-follows c = λ state stands.
     let is = sym c.object_for.ensures ∙ c.in-Ok.is in
     let object = some_at c.args.self.now.objects.items c.in-Ok.place (object_within c.args.self.now c.requires.sound (mode_of c.args.want) c.args.of.now c.in-Ok.place is) in
-    try_taken c.args.self.now c.requires.quiet state stands c.args.self.now (λ n. refl) refl c.args.want c.args.made c.args.of.now c.in-Ok.place is object.0 object.1 (c.is_live.ensures.0 c.if-is_live.true)
+    try_taken c.args.self.now c.requires.quiet state stands c.args.self.now (λ n. refl) refl c.args.want c.args.made c.args.of.now c.in-Ok.place is object.0 object.1
+    (c.is_live.ensures.0 c.if-is_live.true)
 
 pub index-requires : goal.index-requires
 index-requires c = let within = object_within c.args.self.now c.requires.sound (mode_of c.args.want) c.args.of.now c.in-Ok.place (sym c.object_for.ensures ∙ c.in-Ok.is) in omega arith
@@ -59,11 +61,14 @@ returns-clause-follows c = λ state stands.
     let is = sym c.object_for.ensures ∙ c.in-Ok.is in
     let object = c.index_mut-object.result.now in
     let there = object_read c.args.self.now c.requires.sound (mode_of c.args.want) c.args.of.now c.in-Ok.place is object c.index_mut-object.ensures.value in
-    let same = same_Some c.index.result.now object (sym (object_read c.args.self.now c.requires.sound (mode_of c.args.want) c.args.of.now c.in-Ok.place is c.index.result.now c.index.ensures) ∙ there) in
+    let same = same_Some c.index.result.now object (sym (object_read c.args.self.now c.requires.sound (mode_of c.args.want) c.args.of.now c.in-Ok.place is c.index.result.now c.index.ensures)
+    ∙ there) in
     tried c.args.self.now c.requires.quiet state stands (record { names = c.take.new.self; objects = with_item c.args.self.now.objects c.in-Ok.place c.take.new.object; last = c.in-Ok.place })
     c.args.want c.args.made c.args.of.now c.in-Ok.place is (free_name _ c.is_live.result c.is_live.ensures.1 c.if-is_live.false) object there (size_for c.args.want object.kind) c.take.new.object refl
-    (ap (λ (o : ObjectState). is_served (size_for c.args.want o.kind) o.line) (sym same) ∙ sym c.would_serve.ensures ∙ c.if-not-would_serve.false) c.in_ok-take.ensures.taken c.in_ok-take.ensures.steady
-    (subst (λ (k : ℕ). Updated (thing_at c.args.self.now.names) (thing_at c.take.new.self) c.args.made (Some (things.Holding (record { mode = mode_of c.args.want; of = k; count = size_for c.args.want object.kind }))))
+    (ap (λ (o : ObjectState). is_served (size_for c.args.want o.kind) o.line) (sym same) ∙ sym c.would_serve.ensures
+    ∙ c.if-not-would_serve.false) c.in_ok-take.ensures.taken c.in_ok-take.ensures.steady
+    (subst (λ (k : ℕ). Updated (thing_at c.args.self.now.names) (thing_at c.take.new.self) c.args.made
+    (Some (things.Holding (record { mode = mode_of c.args.want; of = k; count = size_for c.args.want object.kind }))))
     (numbered_in c.args.self.now c.in-Ok.place c.requires.sound object there) c.in_ok-take.ensures.ok) refl refl
 
 pub returns-clause-sound : goal.returns-clause-sound
@@ -74,7 +79,9 @@ returns-in_err-take-clause-works c =
     let is = sym c.object_for.ensures ∙ c.in-Ok.is in
     let object = c.index_mut-object.result.now in
     let there = object_read c.args.self.now c.requires.sound (mode_of c.args.want) c.args.of.now c.in-Ok.place is object c.index_mut-object.ensures.value in
-    let same = same_Some c.index.result.now object (sym (object_read c.args.self.now c.requires.sound (mode_of c.args.want) c.args.of.now c.in-Ok.place is c.index.result.now c.index.ensures) ∙ there) in
+    let same = same_Some c.index.result.now object (sym (object_read c.args.self.now c.requires.sound (mode_of c.args.want) c.args.of.now c.in-Ok.place is c.index.result.now c.index.ensures)
+    ∙ there) in
     on_err c.from_residual.result _ (λ state stands.
-    works_try c.args.self.now c.requires.quiet state stands c.args.self.now c.args.want c.args.made c.args.of.now c.in-Ok.place is (free_name _ c.is_live.result c.is_live.ensures.1 c.if-is_live.false) object there
+    works_try c.args.self.now c.requires.quiet state stands c.args.self.now c.args.want c.args.made c.args.of.now c.in-Ok.place is
+    (free_name _ c.is_live.result c.is_live.ensures.1 c.if-is_live.false) object there
     (size_for c.args.want object.kind) refl (ap (λ (o : ObjectState). is_served (size_for c.args.want o.kind) o.line) (sym same) ∙ sym c.would_serve.ensures ∙ c.if-not-would_serve.false))

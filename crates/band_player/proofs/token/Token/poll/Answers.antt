@@ -1,41 +1,60 @@
-use Rattle.std.proofs.Common.{◌≡◌, ◌<◌, ℕ, Some, Ok, length, refl, sym, ap, ◌∙◌, subst}
-use Rattle.std.specs.List.{slice_get, slice_set}
-use Rattle.std.proofs.lemmas.Option.{slice_get_read, slice_get_within}
-use Rattle.band_rules.specs.declared.reply.Reply.TheVariants as replies
-use Rattle.band_player.specs.Thing as things
-use Rattle.band_player.specs.Token.{TokenState, thing_of}
-use Rattle.band_player.specs.Moves.{IsFit, FitsRequest, IsAnswered, PollsRequest, PollsThing}
-use Rattle.band_player.proofs.Polled.{there_of, polled_of, pending_answered}
+use Rattle.std.proofs.Common.{rules}
+use Rattle.band_sem.proofs.Visits.{pays-polled}
+use Rattle.band_player.proofs.Polled.{ends}
+use Rattle.band_player.proofs.Visits.{pays_nothing}
 use Rattle.band_player.proofs.token.Token.poll.Goals as goal
+use Rattle.band_player.proofs.token.Token.poll.Goals.{in-Acquire-Semaphore+in-Ok-Ready, in-Acquire-Semaphore+in-Ok-Pending, in-Acquire-Semaphore+in-Err}
+use Rattle.band_player.proofs.token.Token.poll.Goals.{in-LockRequest-Mutex+in-Ok-Ready-poll_once, in-LockRequest-Mutex+in-Ok-Pending-poll_once, in-LockRequest-Mutex+in-Err-poll_once}
+use Rattle.band_player.proofs.token.Token.poll.Goals.{in-ReadRequest-ReaderWriter+in-Ok-Ready-poll_once-2, in-ReadRequest-ReaderWriter+in-Ok-Pending-poll_once-2}
+use Rattle.band_player.proofs.token.Token.poll.Goals.{in-ReadRequest-ReaderWriter+in-Err-poll_once-2}
+use Rattle.band_player.proofs.token.Token.poll.Goals.{in-WriteRequest-ReaderWriter+in-Ok-Ready-poll_once-3, in-WriteRequest-ReaderWriter+in-Ok-Pending-poll_once-3}
+use Rattle.band_player.proofs.token.Token.poll.Goals.{in-WriteRequest-ReaderWriter+in-Err-poll_once-3}
+use Rattle.band_player.proofs.token.Token.poll.Goals.{in_default, in_default-via-in-Acquire+in-Mutex-1, in_default-via-in-LockRequest+in-Semaphore-1, in_default-via-in-ReadRequest+in-Semaphore-1}
+use Rattle.band_player.proofs.token.Token.poll.Goals.{in_default-via-in-WriteRequest+in-Semaphore-1, in_default-via-in-Ended-1}
 
-pub returns-in-Ok-Pending : goal.returns-in-Ok-Pending
-returns-in-Ok-Pending g c =
-    let objects = c.args.objects.now.items in
-    let request = c.in-Request.request in
-    let place = c.of-place.result in
-    let sem = c.index_mut-object.result.now in
-    let left = c.poll_once.new.self in
-    let after = c.poll_once.new.object in
-    let result = c.poll_once.result in
-    let fit : FitsRequest (slice_get objects place) request =
-    subst (λ (k : ℕ). FitsRequest (slice_get objects k) request) (sym c.of-place.ensures) (subst (λ (t : TokenState). IsFit objects (thing_of t)) (sym c.in-Request.ensures) c.requires) in
-    let known = there_of (slice_get objects place) request fit in
-    let within : place < length objects = slice_get_within objects place known.0 known.1 in
-    let there : slice_get objects place ≡ Some sem = slice_get_read objects _ place sem refl within c.index_mut-object.ensures.value in
-    let of_left : left.of ≡ request.of = polled_of request c.args.waker.0 sem result left after c.poll_once.ensures.polls in
-    let answered : IsAnswered request.of result left (things.Request left.of left) replies.Pending =
-    subst (λ (k : ℕ). IsAnswered request.of result left (things.Request k left) replies.Pending) (sym of_left)
-    (pending_answered request.of result left (c.in-Ok-Pending.is ∙ ap Ok c.in-Ok-Pending.field-0-is)) in
-    let polls : PollsRequest request.of request c.args.waker.0 objects (thing_of c.of_request.result) replies.Pending (slice_set objects place after) =
-    record {
-      before = sem;
-      after = after;
-      result = result;
-      left = left;
-      there = subst (λ (k : ℕ). slice_get objects k ≡ Some sem) c.of-place.ensures there;
-      set = ap (λ (k : ℕ). slice_set objects k after) c.of-place.ensures;
-      lawful = c.poll_once.ensures.steady;
-      polled = c.poll_once.ensures.polls;
-      answered = subst (λ (t : TokenState). IsAnswered request.of result left (thing_of t) replies.Pending) (sym c.of_request.ensures) answered;
-    } in
-    subst (λ (t : TokenState). PollsThing (thing_of t) c.args.waker.0 objects (thing_of c.of_request.result) replies.Pending (slice_set objects place after)) c.in-Request.ensures polls
+pub returns-clause-ok : goal.returns-clause-ok
+returns-clause-ok g c = elim c.match-any.branch [
+  | in-Acquire-Semaphore+in-Ok-Ready w ↦ rw (w.result-is, w.object-inside-is)
+      (rw (← c.self.view_is, ← c.object.view_is, w.in-Acquire-Semaphore.is-0, w.in-Acquire-Semaphore.is-1) (search (rules, ends)))
+  | in-Acquire-Semaphore+in-Ok-Pending w ↦ rw (w.result-is, w.object-inside-is) (rw (← c.self.view_is, ← c.object.view_is, w.in-Acquire-Semaphore.is-0, w.in-Acquire-Semaphore.is-1) (search (rules)))
+  | in-Acquire-Semaphore+in-Err w ↦ rw w.result-is tt
+  | in-LockRequest-Mutex+in-Ok-Ready-poll_once w ↦ rw (w.result-is, w.object-inside-is)
+      (rw (← c.self.view_is, ← c.object.view_is, w.in-LockRequest-Mutex.is-0, w.in-LockRequest-Mutex.is-1) (search (rules, ends)))
+  | in-LockRequest-Mutex+in-Ok-Pending-poll_once w ↦ rw (w.result-is, w.object-inside-is)
+      (rw (← c.self.view_is, ← c.object.view_is, w.in-LockRequest-Mutex.is-0, w.in-LockRequest-Mutex.is-1) (search (rules)))
+  | in-LockRequest-Mutex+in-Err-poll_once w ↦ rw w.result-is tt
+  | in-ReadRequest-ReaderWriter+in-Ok-Ready-poll_once-2 w ↦ rw (w.result-is, w.object-inside-is)
+      (rw (← c.self.view_is, ← c.object.view_is, w.in-ReadRequest-ReaderWriter.is-0, w.in-ReadRequest-ReaderWriter.is-1) (search (rules, ends)))
+  | in-ReadRequest-ReaderWriter+in-Ok-Pending-poll_once-2 w ↦ rw (w.result-is, w.object-inside-is)
+      (rw (← c.self.view_is, ← c.object.view_is, w.in-ReadRequest-ReaderWriter.is-0, w.in-ReadRequest-ReaderWriter.is-1) (search (rules)))
+  | in-ReadRequest-ReaderWriter+in-Err-poll_once-2 w ↦ rw w.result-is tt
+  | in-WriteRequest-ReaderWriter+in-Ok-Ready-poll_once-3 w ↦ rw (w.result-is, w.object-inside-is)
+      (rw (← c.self.view_is, ← c.object.view_is, w.in-WriteRequest-ReaderWriter.is-0, w.in-WriteRequest-ReaderWriter.is-1) (search (rules, ends)))
+  | in-WriteRequest-ReaderWriter+in-Ok-Pending-poll_once-3 w ↦ rw (w.result-is, w.object-inside-is)
+      (rw (← c.self.view_is, ← c.object.view_is, w.in-WriteRequest-ReaderWriter.is-0, w.in-WriteRequest-ReaderWriter.is-1) (search (rules)))
+  | in-WriteRequest-ReaderWriter+in-Err-poll_once-3 w ↦ rw w.result-is tt
+  | in_default w ↦ elim w.in_default-1.branch [
+    | in_default-via-in-Acquire+in-Mutex-1 w' ↦ search rules
+    | in_default-via-in-LockRequest+in-Semaphore-1 w' ↦ search rules
+    | in_default-via-in-ReadRequest+in-Semaphore-1 w' ↦ search rules
+    | in_default-via-in-WriteRequest+in-Semaphore-1 w' ↦ search rules
+    | in_default-via-in-Ended-1 w' ↦ search rules
+  ]
+]
+
+pub returns-clause-visits : goal.returns-clause-visits
+returns-clause-visits g c = elim c.match-any.branch [
+  | in-Acquire-Semaphore+in-Ok-Ready w ↦ rw (w.object-inside-is, w.steps-is, ← c.object.view_is, w.in-Acquire-Semaphore.is-1) (search (rules, pays-polled))
+  | in-Acquire-Semaphore+in-Ok-Pending w ↦ rw (w.object-inside-is, w.steps-is, ← c.object.view_is, w.in-Acquire-Semaphore.is-1) (search (rules, pays-polled))
+  | in-Acquire-Semaphore+in-Err w ↦ rw (w.object-inside-is, w.steps-is, ← c.object.view_is, w.in-Acquire-Semaphore.is-1) (search (rules, pays-polled))
+  | in-LockRequest-Mutex+in-Ok-Ready-poll_once w ↦ rw (w.object-inside-is, w.steps-is, ← c.object.view_is, w.in-LockRequest-Mutex.is-1) (search (rules, pays-polled))
+  | in-LockRequest-Mutex+in-Ok-Pending-poll_once w ↦ rw (w.object-inside-is, w.steps-is, ← c.object.view_is, w.in-LockRequest-Mutex.is-1) (search (rules, pays-polled))
+  | in-LockRequest-Mutex+in-Err-poll_once w ↦ rw (w.object-inside-is, w.steps-is, ← c.object.view_is, w.in-LockRequest-Mutex.is-1) (search (rules, pays-polled))
+  | in-ReadRequest-ReaderWriter+in-Ok-Ready-poll_once-2 w ↦ rw (w.object-inside-is, w.steps-is, ← c.object.view_is, w.in-ReadRequest-ReaderWriter.is-1) (search (rules, pays-polled))
+  | in-ReadRequest-ReaderWriter+in-Ok-Pending-poll_once-2 w ↦ rw (w.object-inside-is, w.steps-is, ← c.object.view_is, w.in-ReadRequest-ReaderWriter.is-1) (search (rules, pays-polled))
+  | in-ReadRequest-ReaderWriter+in-Err-poll_once-2 w ↦ rw (w.object-inside-is, w.steps-is, ← c.object.view_is, w.in-ReadRequest-ReaderWriter.is-1) (search (rules, pays-polled))
+  | in-WriteRequest-ReaderWriter+in-Ok-Ready-poll_once-3 w ↦ rw (w.object-inside-is, w.steps-is, ← c.object.view_is, w.in-WriteRequest-ReaderWriter.is-1) (search (rules, pays-polled))
+  | in-WriteRequest-ReaderWriter+in-Ok-Pending-poll_once-3 w ↦ rw (w.object-inside-is, w.steps-is, ← c.object.view_is, w.in-WriteRequest-ReaderWriter.is-1) (search (rules, pays-polled))
+  | in-WriteRequest-ReaderWriter+in-Err-poll_once-3 w ↦ rw (w.object-inside-is, w.steps-is, ← c.object.view_is, w.in-WriteRequest-ReaderWriter.is-1) (search (rules, pays-polled))
+  | in_default w ↦ search (rules, pays_nothing)
+]

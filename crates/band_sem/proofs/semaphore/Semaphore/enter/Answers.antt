@@ -2,4 +2,4 @@ use Rattle.band_sem.proofs.Lawful.{lawful_when_sound}
 use Rattle.band_sem.proofs.semaphore.Semaphore.enter.Goals as goal
 
 pub returns-clause-lawful : goal.returns-clause-lawful
-returns-clause-lawful c = lawful_when_sound _ c.enter.ensures.sound
+returns-clause-lawful g c = lawful_when_sound _ c.enter.ensures.sound

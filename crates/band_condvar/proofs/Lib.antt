@@ -1,0 +1,5 @@
+mod Batons
+mod Lines
+mod Queues
+mod Requests
+mod While

@@ -1,0 +1,37 @@
+use Rattle.std.proofs.Common.{ap, sym, ◌∙◌, subst, Ok}
+use Rattle.band_base.specs.declared.poll.Poll.TheVariants.{Pending}
+use Rattle.band_condvar.specs.Condvar.{with_spare}
+use Rattle.band_condvar.specs.Waits.{monitor, test, PollsWhile}
+use Rattle.band_condvar.proofs.While.{made-room, while-waits, while-asks}
+use Rattle.band_condvar.proofs.wait_while.CondWaitWhile.poll.Goals as goal
+
+pub returns-in-Pending-clause-polls : goal.returns-in-Pending-clause-polls
+returns-in-Pending-clause-polls g c =
+    let old = c.cv.inside.queue.state in
+    let made = c.reserve.new.self.state in
+    let room = made-room c.reserve.result c.is_err.result c.may_ask.new.queue.state made c.is_err.ensures.value c.if-is_err.false c.reserve.ensures.ok in
+    let polls = while-waits g.F.FnMut c.self.inside.wait c.args.waker old made c.args.m.now (sym c.may_ask.ensures.may ∙ c.if-not-may_ask.false)
+    (room ∙ ap (λ q. with_spare made.line.nodes.spare q.state) c.may_ask.ensures.same)
+    (test c.self.inside.condition c.args.value.now) c.acquire.new.self (monitor c.acquire.new.queue.state c.acquire.new.m)
+    (rw c.in-Pending.is at c.in_ok-guard.ensures.acquires) c.acquire.ensures.of in
+    let at_cv = subst (λ cv. PollsWhile g.F.FnMut c.self.inside.wait c.args.waker (test c.self.inside.condition c.args.value.now) (monitor cv c.args.m.now) (Ok Pending)
+    (test c.self.inside.condition c.args.value.now) c.acquire.new.self (monitor c.acquire.new.queue.state c.acquire.new.m)) c.cv.view_is polls in
+    subst (λ self. PollsWhile g.F.FnMut self.wait c.args.waker (test self.condition c.args.value.now) (monitor c.args.cv.now c.args.m.now) (Ok Pending)
+    (test c.self.inside.condition c.args.value.now) c.acquire.new.self (monitor c.acquire.new.queue.state c.acquire.new.m)) c.self.view_is at_cv
+
+pub returns-in-Ready-clause-polls : goal.returns-in-Ready-clause-polls
+returns-in-Ready-clause-polls g c =
+    let old = c.cv.inside.queue.state in
+    let made = c.reserve.new.self.state in
+    let after = test c.ask.new.self.condition c.ask.new.value in
+    let new = monitor c.ask.new.queue.state c.ask.new.m in
+    let room = made-room c.reserve.result c.is_err.result c.may_ask.new.queue.state made c.is_err.ensures.value c.if-is_err.false c.reserve.ensures.ok in
+    let polls = while-asks g.F.FnMut c.self.inside.wait c.args.waker old made c.args.m.now (sym c.may_ask.ensures.may ∙ c.if-not-may_ask.false)
+    (room ∙ ap (λ q. with_spare made.line.nodes.spare q.state) c.may_ask.ensures.same)
+    c.in-Ready.guard c.ask.result (test c.self.inside.condition c.args.value.now) after
+    c.acquire.new.self.stage (monitor c.acquire.new.queue.state c.acquire.new.m) c.ask.new.self.wait new
+    (rw c.in-Ready.is at c.in_ok-guard.ensures.acquires) c.ask.ensures.asks (c.ask.ensures.of ∙ c.acquire.ensures.of) in
+    let at_cv = subst (λ cv. PollsWhile g.F.FnMut c.self.inside.wait c.args.waker (test c.self.inside.condition c.args.value.now) (monitor cv c.args.m.now) (Ok c.ask.result)
+    after c.ask.new.self.wait new) c.cv.view_is polls in
+    subst (λ self. PollsWhile g.F.FnMut self.wait c.args.waker (test self.condition c.args.value.now) (monitor c.args.cv.now c.args.m.now) (Ok c.ask.result)
+    after c.ask.new.self.wait new) c.self.view_is at_cv

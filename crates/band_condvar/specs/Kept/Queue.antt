@@ -1,0 +1,48 @@
+-- What a condition variable keeps beside what it shows.
+use Rattle.std.specs.Prelude.{◌≡◌, ℕ, ◌+◌, ◌^◌, ◌≤◌, ◌<◌, length, Bool, true, false, Option, Some, None}
+use Rattle.band_base.specs.declared.waker.Waker.{Waker}
+use Rattle.band_condvar.specs.declared.place.Place.{Place}
+use Rattle.band_condvar.specs.declared.place.Place.TheVariants.{Queued, Chosen, Released}
+use Rattle.band_condvar.specs.Condvar.{CondvarState, place_at, is_queued, called, with_waker}
+use Rattle.band_line.specs.WaitList.{is_linked}
+
+-- what it shows, and for how many more wakes there is room
+pub record QueueState : Type 0 where
+  pub state : CondvarState
+  pub room : ℕ
+
+-- exactly those in line are queued and counted, and there is room for the wake of each
+pub record IsKept (state : CondvarState) (waiting room : ℕ) : Type 0 where
+  pub queued : (slot : ℕ) → is_queued (place_at slot state) ≡ is_linked slot state.line
+  pub counted : waiting ≡ length state.line.linked
+  pub fits : waiting ≤ room
+
+-- there is room for one more wait, and for its wake
+pub record HasRoom (queue : QueueState) : Type 0 where
+  pub node : 0 < queue.state.line.nodes.spare
+  pub wake : length queue.state.line.linked < queue.room
+  pub number : length queue.state.line.linked + 1 < 2 ^ 64
+
+-- the first in line is called, if there is one
+abbrev pub CallsFirst : Option ℕ → Place → CondvarState → Bool → CondvarState → Type 0
+CallsFirst None place old result new = (result ≡ false) × (new ≡ old)
+CallsFirst (Some slot) place old result new = (result ≡ true) × (new ≡ called place slot old)
+
+-- one that is queued leaves its new waker
+abbrev pub with_new_waker : Waker → Place → Place
+with_new_waker waker (Queued before) = Queued waker
+with_new_waker waker Chosen = Chosen
+with_new_waker waker Released = Released
+
+-- whether one that is not queued has the baton
+abbrev pub call_of : Place → Option Bool
+call_of (Queued waker) = None
+call_of Chosen = Some true
+call_of Released = Some false
+
+-- one that is queued leaves its new waker, and each other tells how it was called
+abbrev pub Looks : Option Place → ℕ → Waker → CondvarState → Option Bool → CondvarState → Type 0
+Looks (Some (Queued before)) slot waker old result new = (result ≡ None) × (new ≡ with_waker slot waker old)
+Looks (Some Chosen) slot waker old result new = (result ≡ Some true) × (new ≡ old)
+Looks (Some Released) slot waker old result new = (result ≡ Some false) × (new ≡ old)
+Looks None slot waker old result new = ⊥

@@ -1,0 +1,36 @@
+-- What the code keeps of a wait, and what it stands for.
+use Rattle.std.specs.Prelude.{◌≡◌, ℕ, Result, Ok, Err}
+use Rattle.band_base.specs.declared.poll.Poll.{Poll}
+use Rattle.band_base.specs.declared.poll.Poll.TheVariants.{Ready, Pending}
+use Rattle.band_base.specs.declared.poll.PollError.{PollError}
+use Rattle.band_sem.specs.Permit.{Permit}
+use Rattle.band_sem.specs.Request.{Stage as Asked, NotPolled, Joined, Finished as Ended}
+use Rattle.band_condvar.specs.declared.stage.Stage.{Stage as Kept}
+use Rattle.band_condvar.specs.declared.stage.Stage.TheVariants as kept
+use Rattle.band_condvar.specs.Waits.{Stage, Enqueue, Registered, Reacquiring, Finished}
+
+-- the slot of a request that is in its line
+abbrev pub slot_of : Asked → ℕ
+slot_of (Joined slot) = slot
+slot_of NotPolled = 0
+slot_of Ended = 0
+
+abbrev pub stage_of : Kept → Stage
+stage_of (kept.Enqueue guard) = Enqueue guard
+stage_of (kept.Registered id) = Registered id
+stage_of (kept.Reacquiring request has_baton) = Reacquiring has_baton (slot_of request.stage)
+stage_of kept.Finished = Finished
+
+-- a guard is of the mutex with this number, and a request is in its line
+abbrev pub Fits : ℕ → Kept → Type 0
+Fits of (kept.Enqueue guard) = guard.of ≡ of
+Fits of (kept.Registered id) = Unit {0}
+Fits of (kept.Reacquiring request has_baton) =
+    request ≡ record { of = of; size = 1; stage = Joined (slot_of request.stage) }
+Fits of kept.Finished = Unit {0}
+
+-- a guard that is given is of the mutex with this number
+abbrev pub GivesGuardOf : ℕ → Result (Poll Permit) PollError → Type 0
+GivesGuardOf of (Ok (Ready guard)) = guard.of ≡ of
+GivesGuardOf of (Ok Pending) = Unit {0}
+GivesGuardOf of (Err error) = Unit {0}

@@ -1,0 +1,4 @@
+pub mod Batons
+pub mod Condvar
+pub mod Kept
+pub mod Waits

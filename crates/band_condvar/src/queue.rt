@@ -1,0 +1,208 @@
+//! Who waits for a condition variable, and whom to wake.
+ghost use Rattle.std.specs.Prelude.{◌≡◌, ◌+◌, ◌<◌, ◌≤◌, false, length, [], Some, OnOk, OnErr, IsSome, IsTrue};
+ghost use Rattle.band_line.specs.Arena.{next_slot};
+ghost use Rattle.band_line.specs.WaitList.{waiter_at, first_waiter, IsUnlinked, IsWaitList};
+ghost use Rattle.band_condvar.specs.Condvar.{new_condvar, IsCondvar, place_at, is_queued, is_chosen, all_notified, joined, gone, without, with_spare, TakesWake, AllStay};
+ghost use Rattle.band_condvar.specs.Waits.{Registered, LeavesOthers};
+ghost use Rattle.band_condvar.specs.Kept.Queue.{HasRoom, CallsFirst, Looks};
+
+use crate::place::Place;
+use band_base::{Steps, WakeLine, Waker};
+use band_line::{WaitList, WaiterId};
+use std::alloc::{AllocError, Global};
+use std::marker::Model;
+use std::mem;
+use std::sync::ledger::Ledger;
+
+/// The waits of a condition variable, and the wakers to wake, with room for the wake of each that is in line.
+#[derive(Drop)]
+pub(crate) struct Queue {
+    list: WaitList<Place>,
+    waiting: u64,
+    wakes: WakeLine,
+}
+
+impl Model for Queue {
+    ghost use Rattle.band_condvar.specs.Kept.Queue.{QueueState, IsKept};
+
+    ghost Value = { QueueState };
+
+    ghost view = { λ q. record {
+      state = record { line = q.list; wakes = q.wakes.wakers };
+      room = q.wakes.spare;
+    } };
+
+    ghost invariant = { λ q.
+        IsKept (record { line = q.list; wakes = q.wakes.wakers }) q.waiting q.wakes.spare };
+}
+
+impl Queue {
+    /// Nobody waits.
+    pub(crate) fn new(alloc: Global) -> Queue
+        ensures { result.state ≡ new_condvar }
+    {
+        Queue {
+            list: WaitList::new(alloc),
+            waiting: 0,
+            wakes: WakeLine::new(alloc),
+        }
+    }
+
+    /// Does nothing: a caller that changes nothing learns who is queued.
+    pub(crate) fn touch(&self)
+        ensures { IsCondvar self.now.state }
+    {
+        self.list.spare();
+    }
+
+    /// Calls the first in line, and tells whether there was one.
+    pub(crate) fn call_first<L: Ledger>(&mut self, place: Place, steps: &mut Steps<L>) -> bool
+        requires { is_queued (Some place) ≡ false }
+        ensures calls { CallsFirst (first_waiter self.old.state.line) place self.old.state result
+            self.new.state }
+        ensures stay { AllStay self.old.state self.new.state }
+        ensures all { place ≡ Place.Released → all_notified self.new.state ≡ all_notified self.old.state }
+        ensures empty { result ≡ false → self.new.state.line.linked ≡ [] }
+        ensures fewer { IsTrue result
+            → length self.new.state.line.linked + 1 ≡ length self.old.state.line.linked }
+        ensures sound { IsCondvar self.new.state }
+    {
+        let Some(first) = self.list.first() else {
+            return false;
+        };
+        match call(&mut self.list, first, place, steps) {
+            Place::Queued(waker) => {
+                self.waiting -= 1;
+                self.wakes.push(waker);
+                self.touch();
+                true
+            }
+            Place::Chosen | Place::Released => unreachable!(),
+        }
+    }
+
+    /// Releases all in line, in its order.
+    pub(crate) fn release_all<L: Ledger>(&mut self, steps: &mut Steps<L>)
+        ensures state { self.new.state ≡ all_notified self.old.state }
+        ensures stay { AllStay self.old.state self.new.state }
+        ensures sound { IsCondvar self.new.state }
+    {
+        while self.call_first(Place::Released, steps) {}
+    }
+
+    /// Makes room for one more wait and for its wake.
+    pub(crate) fn reserve(&mut self) -> Result<(), AllocError>
+        ensures room { OnOk result (HasRoom self.new) }
+        ensures ok { OnOk result
+            (self.new.state ≡ with_spare self.new.state.line.nodes.spare self.old.state) }
+        ensures err { OnErr result (self.new.state ≡ self.old.state) }
+        ensures sound { IsCondvar self.new.state }
+    {
+        self.touch();
+        match self.waiting.checked_add(1) {
+            Some(wanted) => self.wakes.reserve(wanted)?,
+            None => return Err(AllocError),
+        }
+        self.list.reserve(1)
+    }
+
+    /// Puts a wait at the end of the line, in room that was made.
+    pub(crate) fn join<L: Ledger>(&mut self, waker: Waker, steps: &mut Steps<L>) -> WaiterId
+        requires { HasRoom self.old }
+        ensures slot { result ≡ next_slot self.old.state.line.nodes }
+        ensures vacant { place_at result self.old.state ≡ None }
+        ensures state { self.new.state ≡ joined waker self.new.state.line.nodes.spare self.old.state }
+        ensures here { IsSome (place_at result self.new.state) }
+        ensures others { LeavesOthers (Registered result) self.old.state self.new.state }
+        ensures sound { IsCondvar self.new.state }
+    {
+        self.waiting += 1;
+        self.list.push_back(Place::Queued(waker), steps)
+    }
+
+    /// One that is queued leaves another waker. Where it was called, the answer is whether it was chosen.
+    pub(crate) fn look<L: Ledger>(
+        &mut self,
+        id: WaiterId,
+        waker: Waker,
+        steps: &mut Steps<L>,
+    ) -> Option<bool>
+        requires { IsSome (place_at id self.old.state) }
+        ensures looks { Looks (place_at id self.old.state) id waker self.old.state result self.new.state }
+        ensures here { IsSome (place_at id self.new.state) }
+        ensures room { HasRoom self.old → HasRoom self.new }
+        ensures others { LeavesOthers (Registered id) self.old.state self.new.state }
+        ensures sound { IsCondvar self.new.state }
+    {
+        self.list.waiter_mut(id, steps).leave(waker)
+    }
+
+    /// Whether a wait is in line.
+    pub(crate) fn is_queued<L: Ledger>(&mut self, id: WaiterId, steps: &mut Steps<L>) -> bool
+        requires { IsSome (place_at id self.old.state) }
+        ensures queued { result ≡ is_queued (place_at id self.old.state) }
+        ensures same { self.new ≡ self.old }
+    {
+        matches!(self.list.waiter_mut(id, steps), Place::Queued(_))
+    }
+
+    /// Takes a wait out that is not in line any more.
+    pub(crate) fn remove<L: Ledger>(&mut self, id: WaiterId, steps: &mut Steps<L>)
+        requires here { IsSome (place_at id self.old.state) }
+        requires called { is_queued (place_at id self.old.state) ≡ false }
+        ensures state { self.new.state ≡ gone id self.old.state }
+        ensures room { HasRoom self.old → HasRoom self.new }
+        ensures others { LeavesOthers (Registered id) self.old.state self.new.state }
+        ensures sound { IsCondvar self.new.state }
+    {
+        self.list.remove_unlinked_waiter(id, steps);
+    }
+
+    /// Takes a wait out, from the line too, and tells whether it was chosen.
+    pub(crate) fn take_out<L: Ledger>(&mut self, id: WaiterId, steps: &mut Steps<L>) -> bool
+        requires { IsSome (place_at id self.old.state) }
+        ensures answer { result ≡ is_chosen (place_at id self.old.state) }
+        ensures state { self.new.state ≡ without id self.old.state }
+        ensures others { LeavesOthers (Registered id) self.old.state self.new.state }
+        ensures sound { IsCondvar self.new.state }
+    {
+        let place = call(&mut self.list, id, Place::Released, steps);
+        self.list.remove_unlinked_waiter(id, steps);
+        match place {
+            Place::Queued(_) => {
+                self.waiting -= 1;
+                false
+            }
+            Place::Chosen => true,
+            Place::Released => false,
+        }
+    }
+
+    /// Takes the oldest waker to wake, if there is one.
+    pub(crate) fn take_wake(&mut self) -> Option<Waker>
+        ensures woken { TakesWake self.old.state result self.new.state }
+        ensures sound { IsCondvar self.new.state }
+    {
+        let waker = self.wakes.take_wake();
+        self.touch();
+        waker
+    }
+}
+
+/// A wait is called, and in line no more. The answer is what it was.
+fn call<L: Ledger>(
+    list: &mut WaitList<Place>,
+    id: WaiterId,
+    place: Place,
+    steps: &mut Steps<L>,
+) -> Place
+    requires { IsSome (waiter_at id list.old) }
+    ensures was { waiter_at id list.old ≡ Some result }
+    ensures state { IsUnlinked id place list.old list.new }
+    ensures sound { IsWaitList list.old }
+{
+    match list.unlink_waiter(id, |_| true, steps) {
+        Some(current) => mem::replace(current, place),
+        None => unreachable!(),
+    }
+}

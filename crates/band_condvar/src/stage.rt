@@ -1,0 +1,365 @@
+//! What a wait has come to.
+ghost use Rattle.std.specs.Prelude.{◌≡◌, ◌≤◌, false, IsSome, if◌then◌else◌};
+ghost use Rattle.band_base.specs.declared.poll.Poll.TheVariants as poll;
+ghost use Rattle.band_condvar.specs.Condvar.{IsCondvar, place_at, is_queued, one_notified, AllStay};
+ghost use Rattle.band_condvar.specs.declared.stage.Stage.TheVariants as stages;
+ghost use Rattle.band_condvar.specs.Kept.Queue.{HasRoom};
+ghost use Rattle.band_condvar.specs.Kept.Stage.{stage_of, slot_of, Fits, GivesGuardOf};
+ghost use Rattle.band_condvar.specs.Waits.{Enqueue, Registered, IsHere, IsRegistered, monitor, Registers, Leaves, Reacquires, PollsAt, Acquires, LeavesOthers, OthersStay, LetsGo, cancelled, may_ask};
+ghost use Rattle.band_sem.specs.Request.{Joined};
+ghost use Rattle.band_sem.specs.Semaphore.{IsLawful, IsOwn};
+ghost use Rattle.band_sem.specs.Whole.{IsWhole};
+
+use crate::place::Place;
+use crate::queue::Queue;
+use band_base::{Poll, PollError, Steps, Waker};
+use band_line::WaiterId;
+use band_lock::{LockGuard, LockRequest, MutexState};
+use std::mem;
+use std::sync::ledger::Ledger;
+
+pub(crate) enum Stage {
+    /// It has the guard that it was made with.
+    Enqueue(LockGuard),
+    /// It is in the condition variable.
+    Registered(WaiterId),
+    /// It left the condition variable, and asks for the mutex again.
+    Reacquiring {
+        request: LockRequest,
+        has_baton: bool,
+    },
+    Finished,
+}
+
+/// What a poll leaves of a wait, and what it answers.
+pub(crate) struct Polled {
+    pub(crate) next: Stage,
+    pub(crate) answer: Result<Poll<LockGuard>, PollError>,
+}
+
+impl Stage {
+    /// Polls a wait.
+    pub(crate) fn poll<L: Ledger>(
+        self,
+        queue: &mut Queue,
+        m: &mut MutexState,
+        waker: Waker,
+        steps: &mut Steps<L>,
+    ) -> Polled
+        requires fits { Fits m.old.number self }
+        requires here { IsHere (stage_of self) queue.old.state m.old }
+        ensures polls { PollsAt (stage_of self) m.old.number waker (monitor queue.old.state m.old)
+            result.answer (stage_of result.next) (monitor queue.new.state m.new) }
+        ensures fits { Fits m.old.number result.next }
+        ensures here { IsHere (stage_of result.next) queue.new.state m.new }
+        ensures others { LeavesOthers (stage_of self) queue.old.state queue.new.state }
+        ensures number { m.new.number ≡ m.old.number }
+        ensures sound { IsCondvar queue.new.state }
+        ensures lawful { IsLawful m.new }
+        ensures whole { IsWhole 1 m.new }
+    {
+        match self {
+            Stage::Enqueue(guard) => enqueue(guard, queue, m, waker, steps),
+            stage => stage.acquire(queue, m, waker, steps),
+        }
+    }
+
+    /// Has the guard, or polls for it. Room that was made is still there.
+    pub(crate) fn acquire<L: Ledger>(
+        self,
+        queue: &mut Queue,
+        m: &mut MutexState,
+        waker: Waker,
+        steps: &mut Steps<L>,
+    ) -> Polled
+        requires fits { Fits m.old.number self }
+        requires here { IsHere (stage_of self) queue.old.state m.old }
+        ensures acquires { Acquires (stage_of self) m.old.number waker (monitor queue.old.state m.old)
+            result.answer (stage_of result.next) (monitor queue.new.state m.new) }
+        ensures fits { Fits m.old.number result.next }
+        ensures guard { GivesGuardOf m.new.number result.answer }
+        ensures here { IsHere (stage_of result.next) queue.new.state m.new }
+        ensures others { LeavesOthers (stage_of self) queue.old.state queue.new.state }
+        ensures room { HasRoom queue.old → HasRoom queue.new }
+        ensures number { m.new.number ≡ m.old.number }
+        ensures sound { IsCondvar queue.new.state }
+        ensures lawful { IsLawful m.new }
+        ensures whole { IsWhole 1 m.new }
+    {
+        match self {
+            Stage::Enqueue(guard) => {
+                touch(queue, m);
+                Polled::finished(Ok(Poll::Ready(guard)))
+            }
+            Stage::Registered(id) => match queue.look(id, waker, steps) {
+                Some(has_baton) => leave(id, has_baton, queue, m, waker, steps),
+                None => {
+                    touch(queue, m);
+                    Polled {
+                        next: Stage::Registered(id),
+                        answer: Ok(Poll::Pending),
+                    }
+                }
+            },
+            Stage::Reacquiring { request, has_baton } => {
+                reacquire(request, has_baton, queue, m, waker, steps)
+            }
+            Stage::Finished => {
+                touch(queue, m);
+                Polled::finished(Err(PollError::Finished))
+            }
+        }
+    }
+
+    /// Whether a poll may come to have the guard.
+    pub(crate) fn may_ask<L: Ledger>(&self, queue: &mut Queue, steps: &mut Steps<L>) -> bool
+        requires { IsRegistered (stage_of self.now) queue.old.state }
+        ensures may { result ≡ may_ask (stage_of self.now) queue.old.state }
+        ensures same { queue.new ≡ queue.old }
+    {
+        match self {
+            Stage::Registered(id) => !queue.is_queued(*id, steps),
+            Stage::Enqueue(_) | Stage::Reacquiring { .. } => true,
+            Stage::Finished => false,
+        }
+    }
+
+    /// Ends a wait.
+    pub(crate) fn cancel<L: Ledger>(
+        self,
+        queue: &mut Queue,
+        m: &mut MutexState,
+        steps: &mut Steps<L>,
+    )
+        requires fits { Fits m.old.number self }
+        requires here { IsHere (stage_of self) queue.old.state m.old }
+        ensures state { queue.new.state ≡ cancelled (stage_of self) queue.old.state }
+        ensures lets_go { LetsGo (stage_of self) m.old m.new }
+        ensures others { OthersStay (stage_of self) queue.old.state queue.new.state }
+        ensures number { m.new.number ≡ m.old.number }
+        ensures sound { IsCondvar queue.new.state }
+        ensures lawful { IsLawful m.new }
+        ensures whole { IsWhole 1 m.new }
+    {
+        match self {
+            Stage::Enqueue(guard) => {
+                queue.touch();
+                m.drop_guard(guard, steps);
+            }
+            Stage::Registered(id) => {
+                touch(queue, m);
+                let was_chosen = queue.take_out(id, steps);
+                hand_on(was_chosen, queue, steps);
+            }
+            Stage::Reacquiring { request, has_baton } => {
+                request.cancel(m, steps);
+                hand_on(has_baton, queue, steps);
+            }
+            Stage::Finished => touch(queue, m),
+        }
+    }
+
+    /// Ends a wait and leaves what it stands for.
+    pub(crate) fn lose(self) {
+        match self {
+            Stage::Enqueue(guard) => guard.lose(),
+            Stage::Reacquiring {
+                request,
+                has_baton: _,
+            } => request.lose(),
+            Stage::Registered(_id) => {}
+            Stage::Finished => {}
+        }
+    }
+}
+
+impl Polled {
+    fn finished(answer: Result<Poll<LockGuard>, PollError>) -> Polled
+        ensures next { result.next ≡ stages.Finished }
+        ensures answer { result.answer ≡ answer }
+    {
+        Polled {
+            next: Stage::Finished,
+            answer,
+        }
+    }
+}
+
+/// Puts a wait in the place of one that is finished.
+pub(crate) fn put(place: &mut Stage, stage: Stage)
+    requires { place.old ≡ stages.Finished }
+    ensures { place.new ≡ stage }
+{
+    match mem::replace(place, stage) {
+        Stage::Finished => {}
+        _ => unreachable!(),
+    }
+}
+
+/// Registers a wait in room that was made, and then gives its guard back.
+pub(crate) fn register<L: Ledger>(
+    guard: LockGuard,
+    queue: &mut Queue,
+    m: &mut MutexState,
+    waker: Waker,
+    steps: &mut Steps<L>,
+) -> WaiterId
+    requires number { guard.of ≡ m.old.number }
+    requires held { guard.count ≤ m.old.held }
+    requires room { HasRoom queue.old }
+    ensures registers { Registers guard waker (monitor queue.old.state m.old)
+        (Ok poll.Pending) (Registered result) (monitor queue.new.state m.new) }
+    ensures here { IsSome (place_at result queue.new.state) }
+    ensures others { LeavesOthers (Enqueue guard) queue.old.state queue.new.state }
+    ensures number { m.new.number ≡ m.old.number }
+    ensures sound { IsCondvar queue.new.state }
+    ensures lawful { IsLawful m.new }
+    ensures whole { IsWhole 1 m.new }
+{
+    let id = queue.join(waker, steps);
+    m.drop_guard(guard, steps);
+    id
+}
+
+/// The first poll of a wait.
+fn enqueue<L: Ledger>(
+    guard: LockGuard,
+    queue: &mut Queue,
+    m: &mut MutexState,
+    waker: Waker,
+    steps: &mut Steps<L>,
+) -> Polled
+    requires number { guard.of ≡ m.old.number }
+    requires held { guard.count ≤ m.old.held }
+    ensures registers { Registers guard waker (monitor queue.old.state m.old)
+        result.answer (stage_of result.next) (monitor queue.new.state m.new) }
+    ensures fits { Fits m.old.number result.next }
+    ensures here { IsHere (stage_of result.next) queue.new.state m.new }
+    ensures others { LeavesOthers (Enqueue guard) queue.old.state queue.new.state }
+    ensures number { m.new.number ≡ m.old.number }
+    ensures sound { IsCondvar queue.new.state }
+    ensures lawful { IsLawful m.new }
+    ensures whole { IsWhole 1 m.new }
+{
+    if queue.reserve().is_err() {
+        touch(queue, m);
+        return Polled {
+            next: Stage::Enqueue(guard),
+            answer: Err(PollError::NoMemory),
+        };
+    }
+    let id = register(guard, queue, m, waker, steps);
+    Polled {
+        next: Stage::Registered(id),
+        answer: Ok(Poll::Pending),
+    }
+}
+
+/// A wait that was called asks for the mutex, and leaves the condition variable unless there is no memory to ask.
+fn leave<L: Ledger>(
+    id: WaiterId,
+    has_baton: bool,
+    queue: &mut Queue,
+    m: &mut MutexState,
+    waker: Waker,
+    steps: &mut Steps<L>,
+) -> Polled
+    requires here { IsSome (place_at id queue.old.state) }
+    requires called { is_queued (place_at id queue.old.state) ≡ false }
+    ensures leaves { Leaves has_baton id m.old.number waker (monitor queue.old.state m.old)
+        result.answer (stage_of result.next) (monitor queue.new.state m.new) }
+    ensures fits { Fits m.old.number result.next }
+    ensures guard { GivesGuardOf m.new.number result.answer }
+    ensures here { IsHere (stage_of result.next) queue.new.state m.new }
+    ensures others { LeavesOthers (Registered id) queue.old.state queue.new.state }
+    ensures room { HasRoom queue.old → HasRoom queue.new }
+    ensures number { m.new.number ≡ m.old.number }
+    ensures sound { IsCondvar queue.new.state }
+    ensures lawful { IsLawful m.new }
+    ensures whole { IsWhole 1 m.new }
+{
+    let mut request = m.lock();
+    match request.poll_once(m, waker, steps) {
+        Ok(Poll::Ready(guard)) => {
+            request.lose();
+            queue.remove(id, steps);
+            Polled::finished(Ok(Poll::Ready(guard)))
+        }
+        Ok(Poll::Pending) => {
+            queue.remove(id, steps);
+            Polled {
+                next: Stage::Reacquiring { request, has_baton },
+                answer: Ok(Poll::Pending),
+            }
+        }
+        Err(error) => {
+            request.lose();
+            queue.touch();
+            Polled {
+                next: Stage::Registered(id),
+                answer: Err(error),
+            }
+        }
+    }
+}
+
+/// A wait that left the condition variable asks whether it was granted the mutex.
+fn reacquire<L: Ledger>(
+    mut request: LockRequest,
+    has_baton: bool,
+    queue: &Queue,
+    m: &mut MutexState,
+    waker: Waker,
+    steps: &mut Steps<L>,
+) -> Polled
+    requires fits { Fits m.old.number (stages.Reacquiring request has_baton) }
+    requires own { IsOwn (Joined (slot_of request.stage)) 1 m.old.line }
+    ensures reacquires { Reacquires has_baton (slot_of request.stage) m.old.number waker
+        (monitor queue.now.state m.old) result.answer (stage_of result.next) (monitor queue.now.state m.new) }
+    ensures fits { Fits m.old.number result.next }
+    ensures guard { GivesGuardOf m.new.number result.answer }
+    ensures here { IsHere (stage_of result.next) queue.now.state m.new }
+    ensures number { m.new.number ≡ m.old.number }
+    ensures sound { IsCondvar queue.now.state }
+    ensures lawful { IsLawful m.new }
+    ensures whole { IsWhole 1 m.new }
+{
+    queue.touch();
+    match request.poll_once(m, waker, steps) {
+        Ok(Poll::Ready(guard)) => {
+            request.lose();
+            Polled::finished(Ok(Poll::Ready(guard)))
+        }
+        Ok(Poll::Pending) => Polled {
+            next: Stage::Reacquiring { request, has_baton },
+            answer: Ok(Poll::Pending),
+        },
+        Err(error) => Polled {
+            next: Stage::Reacquiring { request, has_baton },
+            answer: Err(error),
+        },
+    }
+}
+
+/// Hands a baton on to the first in line, if there is one.
+fn hand_on<L: Ledger>(has_baton: bool, queue: &mut Queue, steps: &mut Steps<L>)
+    ensures state { queue.new.state ≡ (if has_baton then one_notified queue.old.state else queue.old.state) }
+    ensures stay { AllStay queue.old.state queue.new.state }
+    ensures sound { IsCondvar queue.new.state }
+{
+    if has_baton {
+        queue.call_first(Place::Chosen, steps);
+    } else {
+        queue.touch();
+    }
+}
+
+/// Does nothing: a caller that changes nothing learns what holds.
+pub(crate) fn touch(queue: &Queue, m: &MutexState)
+    ensures sound { IsCondvar queue.now.state }
+    ensures lawful { IsLawful m.now }
+    ensures whole { IsWhole 1 m.now }
+{
+    queue.touch();
+    m.semaphore().held_permits();
+}

@@ -1,0 +1,165 @@
+//! A wait for a condition variable.
+ghost use Rattle.std.specs.Prelude.{◌≡◌, ◌≤◌};
+ghost use Rattle.band_base.specs.declared.poll.Poll.TheVariants as poll;
+ghost use Rattle.band_condvar.specs.Condvar.{IsCondvar};
+ghost use Rattle.band_condvar.specs.Kept.Queue.{HasRoom};
+ghost use Rattle.band_condvar.specs.Kept.Stage.{GivesGuardOf};
+ghost use Rattle.band_condvar.specs.Waits.{Enqueue, Finished, IsHere, IsRegistered, may_ask, monitor, Registers, Acquires, Polls, LeavesOthers, OthersStay, LetsGo, cancelled};
+ghost use Rattle.band_sem.specs.Semaphore.{IsLawful};
+ghost use Rattle.band_sem.specs.Whole.{IsWhole};
+
+use crate::Condvar;
+use crate::queue::Queue;
+use crate::stage::{Polled, Stage, put, register};
+use band_base::{Poll, PollError, Steps, Waker};
+use band_lock::{LockGuard, MutexState};
+use std::marker::Model;
+use std::mem;
+use std::sync::ledger::Ledger;
+
+/// A wait, which gives a guard back and has one again in the end. It must be ended by `cancel` or `lose`. Ports the
+/// future of `wait`.
+pub struct CondWait {
+    of: u64,
+    stage: Stage,
+}
+
+impl Model for CondWait {
+    ghost use Rattle.band_condvar.specs.Waits.{Wait};
+    ghost use Rattle.band_condvar.specs.Kept.Stage.{stage_of, Fits};
+
+    ghost Value = { Wait };
+
+    ghost view = { λ w. record { of = w.of; stage = stage_of w.stage } };
+
+    ghost invariant = { λ w. Fits w.of w.stage };
+}
+
+impl CondWait {
+    pub(crate) fn new(guard: LockGuard) -> CondWait
+        ensures { result ≡ record { of = guard.of; stage = Enqueue guard } }
+    {
+        CondWait {
+            of: guard.of(),
+            stage: Stage::Enqueue(guard),
+        }
+    }
+
+    /// The number of its mutex.
+    pub fn of(&self) -> u64
+        ensures { result ≡ self.now.of }
+    {
+        self.of
+    }
+
+    /// Registers the wait and unlocks the mutex, the first time. Later it asks whether it was called, and then for the
+    /// mutex. Who registers or asks for the mutex first may take memory.
+    pub fn poll<L: Ledger>(
+        &mut self,
+        cv: &mut Condvar,
+        m: &mut MutexState,
+        waker: Waker,
+        steps: &mut Steps<L>,
+    ) -> Result<Poll<LockGuard>, PollError>
+        requires number { self.old.of ≡ m.old.number }
+        requires here { IsHere self.old.stage cv.old m.old }
+        ensures polls { Polls self.old waker (monitor cv.old m.old) result self.new (monitor cv.new m.new) }
+        ensures here { IsHere self.new.stage cv.new m.new }
+        ensures others { LeavesOthers self.old.stage cv.old cv.new }
+        ensures number { m.new.number ≡ m.old.number }
+        ensures sound { IsCondvar cv.new }
+        ensures lawful { IsLawful m.new }
+        ensures whole { IsWhole 1 m.new }
+    {
+        let stage = mem::replace(&mut self.stage, Stage::Finished);
+        let Polled { next, answer } = stage.poll(&mut cv.queue, m, waker, steps);
+        put(&mut self.stage, next);
+        answer
+    }
+
+    /// Whether a poll may come to have the guard.
+    pub(crate) fn may_ask<L: Ledger>(&self, queue: &mut Queue, steps: &mut Steps<L>) -> bool
+        requires { IsRegistered self.now.stage queue.old.state }
+        ensures may { result ≡ may_ask self.now.stage queue.old.state }
+        ensures same { queue.new ≡ queue.old }
+    {
+        self.stage.may_ask(queue, steps)
+    }
+
+    /// Has the guard, or polls for it. Room that was made is still there.
+    pub(crate) fn acquire<L: Ledger>(
+        &mut self,
+        queue: &mut Queue,
+        m: &mut MutexState,
+        waker: Waker,
+        steps: &mut Steps<L>,
+    ) -> Result<Poll<LockGuard>, PollError>
+        requires number { self.old.of ≡ m.old.number }
+        requires here { IsHere self.old.stage queue.old.state m.old }
+        ensures of { self.new.of ≡ self.old.of }
+        ensures acquires { Acquires self.old.stage self.old.of waker (monitor queue.old.state m.old)
+            result self.new.stage (monitor queue.new.state m.new) }
+        ensures guard { GivesGuardOf m.new.number result }
+        ensures here { IsHere self.new.stage queue.new.state m.new }
+        ensures others { LeavesOthers self.old.stage queue.old.state queue.new.state }
+        ensures room { HasRoom queue.old → HasRoom queue.new }
+        ensures number { m.new.number ≡ m.old.number }
+        ensures sound { IsCondvar queue.new.state }
+        ensures lawful { IsLawful m.new }
+        ensures whole { IsWhole 1 m.new }
+    {
+        let stage = mem::replace(&mut self.stage, Stage::Finished);
+        let Polled { next, answer } = stage.acquire(queue, m, waker, steps);
+        put(&mut self.stage, next);
+        answer
+    }
+
+    /// Waits again, in room that was made, and gives the guard back.
+    pub(crate) fn register<L: Ledger>(
+        &mut self,
+        guard: LockGuard,
+        queue: &mut Queue,
+        m: &mut MutexState,
+        waker: Waker,
+        steps: &mut Steps<L>,
+    )
+        requires finished { self.old.stage ≡ Finished }
+        requires number { guard.of ≡ m.old.number }
+        requires held { guard.count ≤ m.old.held }
+        requires room { HasRoom queue.old }
+        ensures of { self.new.of ≡ self.old.of }
+        ensures registers { Registers guard waker (monitor queue.old.state m.old)
+            (Ok poll.Pending) self.new.stage (monitor queue.new.state m.new) }
+        ensures here { IsHere self.new.stage queue.new.state m.new }
+        ensures others { LeavesOthers (Enqueue guard) queue.old.state queue.new.state }
+        ensures number { m.new.number ≡ m.old.number }
+        ensures sound { IsCondvar queue.new.state }
+        ensures lawful { IsLawful m.new }
+        ensures whole { IsWhole 1 m.new }
+    {
+        let id = register(guard, queue, m, waker, steps);
+        put(&mut self.stage, Stage::Registered(id));
+    }
+
+    /// Ends the wait, and what it has of the mutex. One that has the baton then hands it on to the first in line.
+    pub fn cancel<L: Ledger>(self, cv: &mut Condvar, m: &mut MutexState, steps: &mut Steps<L>)
+        requires number { self.of ≡ m.old.number }
+        requires here { IsHere self.stage cv.old m.old }
+        ensures state { cv.new ≡ cancelled self.stage cv.old }
+        ensures lets_go { LetsGo self.stage m.old m.new }
+        ensures others { OthersStay self.stage cv.old cv.new }
+        ensures number { m.new.number ≡ m.old.number }
+        ensures sound { IsCondvar cv.new }
+        ensures lawful { IsLawful m.new }
+        ensures whole { IsWhole 1 m.new }
+    {
+        let CondWait { of: _, stage } = self;
+        stage.cancel(&mut cv.queue, m, steps);
+    }
+
+    /// Ends the wait and leaves what it stands for, for a condition variable and a mutex that end too.
+    pub fn lose(self) {
+        let CondWait { of: _, stage } = self;
+        stage.lose();
+    }
+}

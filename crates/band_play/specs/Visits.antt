@@ -1,0 +1,50 @@
+-- How many nodes of lines the playing of a script visits.
+use Rattle.std.specs.Prelude.{◌≡◌, ◌≢◌, ◌↔◌, ◌⊎◌, ℕ, ◌+◌, ◌*◌, ◌≤◌, List, [], ◌∷◌, codes, length, take, Option, Some, None}
+use Rattle.std.specs.Prelude.{Result, Ok, Err, IsOk}
+use Rattle.band_play.specs.Play.{Gave, program_limit}
+use Rattle.band_play.specs.declared.fault.PlayFault.{PlayFault}
+use Rattle.band_play.specs.declared.fault.PlayFault.TheVariants as faults
+use Rattle.band_play.specs.declared.playing.Playing.{Playing}
+use Rattle.band_player.specs.Player.{load_of}
+use Rattle.band_rules.specs.Script.{lines_of}
+
+-- how many lines end in these bytes
+abbrev pub count_lines : List ℕ → ℕ
+count_lines bytes = length (lines_of bytes)
+
+-- sixteen visits at most for each line that the answer counts
+abbrev pub VisitsBy : Result ℕ PlayFault → ℕ → ℕ → Type 0
+VisitsBy (Ok lines) before after = after ≤ before + 16 * lines
+VisitsBy (Err (faults.Malformed line)) before after = after + 16 ≤ before + 16 * line
+VisitsBy (Err fault) before after = Unit {0}
+
+-- What `play` visits. Whatever the answer is, it is at most sixteen for each line that ends, within the limit, in what
+-- the source gave.
+pub record VisitsFew (limit : ℕ) (first last : Option (List ℕ)) (answer : Result ℕ PlayFault)
+    (before after : ℕ) : Type 0 where
+  pub no_fewer : before ≤ after
+  pub answered : VisitsBy answer before after
+  pub taken : Gave (λ given. after ≤ before + 16 * count_lines (take limit given)) first last
+
+-- The program visits what `play` does, and nothing with other words.
+abbrev pub RunVisits : List (List ℕ) → Option (List ℕ) → Option (List ℕ) → ℕ → ℕ → ℕ → Type 0
+RunVisits words first last status before after =
+    ((words ≡ codes "play" ∷ []) × ((answer : Result ℕ PlayFault)
+    × VisitsFew program_limit first last answer before after × ((status ≡ 0) ↔ IsOk answer)))
+    ⊎ ((words ≢ codes "play" ∷ []) × (after ≡ before))
+
+-- so many lines were run, each of which paid sixteen
+pub record PaysLines (lines : ℕ) (old new : Playing) (before after : ℕ) : Type 0 where
+  pub no_fewer : before ≤ after
+  pub no_more : after + 8 * load_of new.player ≤ before + 8 * load_of old.player + 16 * lines
+
+-- all lines of a piece were run, or those before the first that stands for no call
+abbrev pub CountsPiece : Option ℕ → List ℕ → Playing → Playing → ℕ → ℕ → Type 0
+CountsPiece None piece old new before after = new.lines ≡ old.lines + count_lines piece
+CountsPiece (Some line) piece old new before after =
+    after + 16 * (old.lines + 1) ≤ before + 8 * load_of old.player + 16 * line
+
+abbrev pub CountsFault : PlayFault → Playing → ℕ → ℕ → Type 0
+CountsFault (faults.Malformed line) old before after =
+    after + 16 * (old.lines + 1) ≤ before + 8 * load_of old.player + 16 * line
+CountsFault fault old before after = Unit {0}

@@ -1,0 +1,5 @@
+pub mod Granted
+pub mod Linked
+pub mod Moving
+pub mod Parts
+pub mod Serving

@@ -1,0 +1,3 @@
+-- What is kept inside, and what it stands for. No clause of a public call cites it.
+pub mod Counts
+pub mod Serves

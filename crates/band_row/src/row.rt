@@ -1,0 +1,292 @@
+//! The row: what is available, the nodes, and the wakers to wake.
+ghost use Rattle.std.specs.Prelude.{◌≡◌, ◌+◌, ◌*◌, ◌<◌, ◌≤◌, ◌↔◌, length, [], Some, IsSome, IfSome, IfNone, OnOk, OnErr, MatchOption, None};
+ghost use Rattle.band_balance.specs.Line.{total};
+ghost use Rattle.band_line.specs.Visits.{Visits};
+ghost use Rattle.band_line.specs.WaitList.{IsWaitList, waiter_at, first_waiter};
+ghost use Rattle.band_partial.specs.PartialLine.{AreAlikeParts, IsSettled, debts, requests_of};
+ghost use Rattle.band_partial.specs.Moves.{open_part, draw, give_out, pass_on, cancel_request};
+ghost use Rattle.band_row.specs.Row.{IsRow, is_slot, part, HasRequest, Holds, Enqueues, Owes, PollsNode, TakesWake, served};
+ghost use Rattle.band_row.specs.Kept.Serves.{Ends, Serves, ServesNode, IsGone};
+
+use crate::WaitNode;
+use crate::counts::Counts;
+use band_base::{Steps, Waker};
+use band_line::{WaitList, WaiterId};
+use std::alloc::{AllocError, Global};
+use std::marker::Model;
+use std::mem;
+use std::sync::ledger::Ledger;
+
+/// What is available and who waits for more, or is owed some, in a line.
+#[derive(Drop)]
+pub struct Row {
+    word: u64,
+    list: WaitList<WaitNode>,
+    counts: Counts,
+}
+
+impl Model for Row {
+    ghost use Rattle.band_row.specs.Row.{RowState};
+    ghost use Rattle.band_row.specs.Kept.Counts.{IsKept};
+
+    ghost Value = { RowState };
+
+    ghost view = { λ row.
+        record { word = row.word; list = row.list; wakes = row.counts.wakes.wakers } };
+
+    ghost invariant = { λ row.
+        IsKept (record { word = row.word; list = row.list; wakes = row.counts.wakes.wakers }) row.counts };
+}
+
+// One in which nobody ever waited takes no more than this.
+const _: () = prove!(size_of::<Row>() == 40);
+
+impl Row {
+    /// All permits are available.
+    pub fn new(alloc: Global, permits: u64) -> Row
+        ensures part { part result ≡ open_part permits }
+        ensures row { IsRow result }
+    {
+        Row {
+            word: permits,
+            list: WaitList::new(alloc),
+            counts: Counts::new(alloc),
+        }
+    }
+
+    /// How many permits are available.
+    pub fn word(&self) -> u64
+        ensures word { result ≡ self.now.word }
+        ensures row { IsRow self.now }
+    {
+        self.word
+    }
+
+    /// The nodes, linked and granted.
+    pub fn list(&self) -> &WaitList<WaitNode>
+        ensures list { result.now ≡ self.now.list }
+        ensures row { IsRow self.now }
+    {
+        &self.list
+    }
+
+    /// How many requests wait.
+    pub fn waiting_count(&self) -> u64
+        ensures { result ≡ length (requests_of (part self.now).nodes) }
+    {
+        self.counts.waiting()
+    }
+
+    /// How many permits were granted and not collected since.
+    pub fn granted_sum(&self) -> u64
+        ensures { result ≡ total (part self.now).granted }
+    {
+        self.counts.granted_sum()
+    }
+
+    /// Takes `n` of what is available.
+    pub fn draw(&mut self, n: u64)
+        requires { n ≤ self.old.word }
+        ensures part { part self.new ≡ draw n (part self.old) }
+        ensures row { IsRow self.new }
+    {
+        self.word -= n;
+    }
+
+    /// A request that asks for more than is available takes that as its share, and waits at the end.
+    pub fn enqueue<L: Ledger>(
+        &mut self,
+        size: u64,
+        waker: Waker,
+        steps: &mut Steps<L>,
+    ) -> Result<WaiterId, AllocError>
+        requires more { self.old.word < size }
+        requires settled { IsSettled (part self.old) }
+        ensures joins { Enqueues size waker.0 (part self.old) result (part self.new) }
+        ensures settled { IsSettled (part self.new) }
+        ensures row { IsRow self.new }
+        ensures visits { OnOk result (Visits 1 2 steps.old steps.new) }
+        ensures no_visit { OnErr result (steps.new ≡ steps.old) }
+    {
+        self.counts.reserve()?;
+        self.list.reserve(1)?;
+        self.counts.join();
+        let needed = size - mem::replace(&mut self.word, 0);
+        Ok(
+            self.list
+                .push_back(WaitNode::request(size, needed, waker), steps),
+        )
+    }
+
+    /// What is available is gone, and the rest of `n` is owed, before all that wait.
+    pub fn owe<L: Ledger>(&mut self, n: u64, steps: &mut Steps<L>) -> Result<WaiterId, AllocError>
+        requires more { self.old.word < n }
+        requires settled { IsSettled (part self.old) }
+        ensures owes { Owes n (part self.old) result (part self.new) }
+        ensures settled { IsSettled (part self.new) }
+        ensures row { IsRow self.new }
+        ensures visits { OnOk result (Visits 1 2 steps.old steps.new) }
+        ensures no_visit { OnErr result (steps.new ≡ steps.old) }
+    {
+        self.list.reserve(1)?;
+        let needed = n - mem::replace(&mut self.word, 0);
+        Ok(self.list.push_front(WaitNode::debt(n, needed), steps))
+    }
+
+    /// A request that was granted leaves, and its size is the answer. One that waits leaves its new waker.
+    pub fn poll<L: Ledger>(
+        &mut self,
+        id: WaiterId,
+        waker: Waker,
+        steps: &mut Steps<L>,
+    ) -> Option<u64>
+        requires here { HasRequest id (part self.old) }
+        ensures polls { PollsNode id waker.0 (part self.old) result (part self.new) }
+        ensures row { IsRow self.new }
+        ensures visits { Visits 1 2 steps.old steps.new }
+    {
+        if self.list.waiter_mut(id, steps).leaves_waker(waker) {
+            return None;
+        }
+        let size = self.list.remove_unlinked_waiter(id, steps).size;
+        self.counts.collect(size);
+        Some(size)
+    }
+
+    /// Ends a request. What it was granted, or else its share, is given out.
+    pub fn cancel<L: Ledger>(&mut self, id: WaiterId, steps: &mut Steps<L>)
+        requires here { HasRequest id (part self.old) }
+        requires holds { Holds 0 (part self.old) }
+        requires settled { IsSettled (part self.old) }
+        ensures part { AreAlikeParts (cancel_request (is_slot id) (part self.old)) (part self.new) }
+        ensures settled { IsSettled (part self.new) }
+        ensures row { IsRow self.new }
+        ensures debts { debts (part self.new).nodes ≤ debts (part self.old).nodes }
+        ensures visits { Visits 2 (4 * served (part self.old) (part self.new) + 6) steps.old steps.new }
+    {
+        self.word += self.take_out(id, steps);
+        self.give_out(steps);
+    }
+
+    /// Gives `n` out, from the front on. What nobody needs is available.
+    pub fn pass_on<L: Ledger>(&mut self, n: u64, steps: &mut Steps<L>)
+        requires holds { Holds n (part self.old) }
+        requires settled { IsSettled (part self.old) }
+        ensures part { AreAlikeParts (pass_on n (part self.old)) (part self.new) }
+        ensures settled { IsSettled (part self.new) }
+        ensures row { IsRow self.new }
+        ensures debts { debts (part self.new).nodes ≤ debts (part self.old).nodes }
+        ensures visits { Visits 0 (4 * served (part self.old) (part self.new) + 1) steps.old steps.new }
+    {
+        self.word += n;
+        self.give_out(steps);
+    }
+
+    /// Takes a request out, and tells what it had: what it was granted, or else its share.
+    fn take_out<L: Ledger>(&mut self, id: WaiterId, steps: &mut Steps<L>) -> u64
+        requires here { HasRequest id (part self.old) }
+        ensures ended { Ends id (part self.old) result (part self.new) }
+        ensures visits { Visits 2 5 steps.old steps.new }
+    {
+        let node = leave(&mut self.list, id, steps);
+        if node.waker.is_some() {
+            self.counts.leave();
+            return node.size - node.needed;
+        }
+        self.counts.collect(node.size);
+        node.size
+    }
+
+    /// The node in front, where anything is available to serve it with.
+    fn first_to_serve(&self) -> Option<WaiterId>
+        ensures first { IfSome result (λ id. first_waiter self.now.list ≡ Some id) }
+        ensures some { IsSome result → 0 < self.now.word }
+        ensures none { IfNone result (0 < self.now.word → (part self.now).nodes ≡ []) }
+        ensures row { IsRow self.now }
+    {
+        if self.word == 0 {
+            return None;
+        }
+        self.list.first()
+    }
+
+    /// Gives out what is available, from the front on.
+    fn give_out<L: Ledger>(&mut self, steps: &mut Steps<L>)
+        requires holds { Holds 0 (part self.old) }
+        ensures part { AreAlikeParts (give_out (part self.old)) (part self.new) }
+        ensures settled { IsSettled (part self.new) }
+        ensures row { IsRow self.new }
+        ensures debts { debts (part self.new).nodes ≤ debts (part self.old).nodes }
+        ensures visits { Visits 0 (4 * served (part self.old) (part self.new) + 1) steps.old steps.new }
+    {
+        while let Some(first) = self.first_to_serve() {
+            self.serve(first, steps);
+        }
+    }
+
+    /// The node in front gets all that it needs and leaves, or it gets all that is available.
+    fn serve<L: Ledger>(&mut self, first: WaiterId, steps: &mut Steps<L>)
+        requires first { first_waiter self.old.list ≡ Some first }
+        requires some { 0 < self.old.word }
+        requires holds { Holds 0 (part self.old) }
+        ensures serves { Serves (part self.old) (part self.new) steps.old steps.new }
+        ensures holds { Holds 0 (part self.new) }
+        ensures less { self.new.word < self.old.word }
+    {
+        let Some(node) = serve_first(&mut self.list, first, self.word, steps) else {
+            self.word = 0;
+            return;
+        };
+        self.word -= node.needed;
+        match node.waker {
+            Some(waker) => self.counts.grant(node.size, waker),
+            None => {
+                self.list.remove_unlinked_waiter(first, steps);
+            }
+        }
+    }
+
+    /// Takes the oldest waker to wake, if there is one.
+    pub fn take_wake(&mut self) -> Option<Waker>
+        ensures woken { TakesWake (part self.old) result (part self.new) }
+        ensures row { IsRow self.new }
+    {
+        self.counts.take_wake()
+    }
+}
+
+/// Takes a node out, linked or not.
+fn leave<L: Ledger>(list: &mut WaitList<WaitNode>, id: WaiterId, steps: &mut Steps<L>) -> WaitNode
+    requires { IsSome (waiter_at id list.old) }
+    ensures value { waiter_at id list.old ≡ Some result }
+    ensures gone { IsGone id list.old list.new }
+    ensures visits { Visits 2 5 steps.old steps.new }
+{
+    match list.unlink_waiter(id, |_| true, steps) {
+        Some(_) => list.remove_unlinked_waiter(id, steps),
+        None => unreachable!(),
+    }
+}
+
+/// The node in front leaves the line where `permits` are all that it needs, and the answer is what it was. Else
+/// it has them from now on.
+fn serve_first<L: Ledger>(
+    list: &mut WaitList<WaitNode>,
+    first: WaiterId,
+    permits: u64,
+    steps: &mut Steps<L>,
+) -> Option<WaitNode>
+    requires first { first_waiter list.old ≡ Some first }
+    requires here { IsSome (waiter_at first list.old) }
+    ensures serves { ServesNode first permits list.old result list.new }
+    ensures sound { IsWaitList list.old }
+    ensures visits { MatchOption result (steps.new ≡ steps.old + 1) (λ _. Visits 1 3 steps.old steps.new) }
+{
+    match list.unlink_waiter(first, |node| node.is_served(permits), steps) {
+        Some(node) => {
+            let granted = WaitNode::granted(node.size);
+            Some(mem::replace(node, granted))
+        }
+        None => None,
+    }
+}
