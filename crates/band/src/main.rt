@@ -1,9 +1,9 @@
 //! The program: its words, the standard streams and a counter, given to `run`.
 #![tactic(auto)]
 
-ghost use Rattle.std.specs.Prelude.{◌≡◌, ◌≢◌, ◌⊎◌, ◌<◌, [], ◌∷◌, Ok, codes, map, string_bytes};
+ghost use Rattle.std.specs.Prelude.{◌≡◌, ◌⊎◌, ◌<◌, Ok, map, string_bytes};
 ghost use Rattle.std.specs.Result.{IfOk, IfErr};
-ghost use Rattle.band_play.specs.Play.{IsStatus};
+ghost use Rattle.band_play.specs.Play.{AreOthers, IsStatus};
 
 use band_base::{StdErr, StdIn, StdOut, Steps};
 use std::alloc::Global;
@@ -51,8 +51,8 @@ fn run_counted<L: Ledger>(rt: &HostRuntime, words: &[String], blank: Blank) -> u
     requires parts { blank.parts ≡ L.parts }
     requires some { 0 < blank.parts }
     ensures status { IsStatus result }
-    ensures usage { result ≡ 2 → map string_bytes words.now ≢ codes "play" ∷ [] }
-    ensures other_words { map string_bytes words.now ≢ codes "play" ∷ [] → (result ≡ 2) ⊎ (result ≡ 7) }
+    ensures usage { result ≡ 2 → AreOthers (map string_bytes words.now) }
+    ensures other_words { AreOthers (map string_bytes words.now) → (result ≡ 2) ⊎ (result ≡ 7) }
 {
     let mut src = StdIn::new(rt.stdin());
     let mut dst = StdOut::new(rt.stdout());

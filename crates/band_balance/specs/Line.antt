@@ -141,6 +141,10 @@ module _ {N : Type 0} where
   abbrev pub cancel : (N → Bool) → Line N → Line N
   cancel is line = settle (withdraw (entry_named is line.granted) is line)
 
+  -- All that wait are ended: they leave the line, and their wakers are to be woken.
+  abbrev pub end_waiting : Line N → Line N
+  end_waiting line = record line { waiting = []; wakes = line.wakes ++ map (λ w. w.waker) line.waiting }
+
 -- the same line under other names
 abbrev pub renamed : {M N : Type 0} → (M → N) → Entry M → Entry N
 renamed f e = record { name = f e.name; size = e.size }

@@ -15,9 +15,9 @@ use Rattle.band_line.specs.WaitList.{first_waiter}
 use Rattle.band_sem.specs.Permit.{Permit}
 use Rattle.band_condvar.specs.declared.place.Place.{Place}
 use Rattle.band_condvar.specs.declared.place.Place.TheVariants.{Queued, Chosen, Released}
-use Rattle.band_condvar.specs.Batons.{baton_in, chosen_count, batons, ended}
+use Rattle.band_condvar.specs.Batons.{baton_in, chosen_count, batons, ended, ended_while}
 use Rattle.band_condvar.specs.Condvar.{CondvarState, IsCondvar, place_at, is_queued, is_chosen, called, chosen_at, one_notified, released, all_notified, joined, without}
-use Rattle.band_condvar.specs.Waits.{Stage, Enqueue, Registered, Reacquiring, Finished, Monitor, Leaves, PollsPlace, PollsAt, has_baton, uncalled, cancelled}
+use Rattle.band_condvar.specs.Waits.{Stage, Enqueue, Registered, Reacquiring, Finished, Monitor, Leaves, PollsPlace, PollsAt, Acquires, has_baton, uncalled, cancelled}
 use Rattle.band_condvar.proofs.Lines.{is_in, in_first}
 
 -- A slot is written.
@@ -68,7 +68,7 @@ notify-all state =
     at (x ∷ xs) = ap (λ n. n ∷ map baton_in (map (option_map released) xs)) (alike x) ∙ ap (λ ns. baton_in x ∷ ns) (at xs)
 
 -- A poll.
-joins : (waker : Waker) (spare : ℕ) (state : CondvarState) → place_at (next_slot state.line.nodes) state ≡ None → chosen_count (joined waker spare state) ≡ chosen_count state
+pub joins : (waker : Waker) (spare : ℕ) (state : CondvarState) → place_at (next_slot state.line.nodes) state ≡ None → chosen_count (joined waker spare state) ≡ chosen_count state
 joins waker spare state vacant = by_vacated state.line.nodes.vacated refl
   where
     by_vacated : (vacated : List ℕ) → state.line.nodes.vacated ≡ vacated → sum_by baton_in (filled (Queued waker) state.line.nodes.slots state.line.nodes.vacated) ≡ sum_by baton_in state.line.nodes.slots
@@ -138,6 +138,36 @@ poll-keeps (Reacquiring baton slot) of waker old (Ok Pending) next new (none, en
 poll-keeps (Reacquiring baton slot) of waker old (Err error) next new polls = absurd polls
 poll-keeps Finished of waker old result next new (answers, ends, is) =
     ap (λ r. batons next new.condvar + ended r false) answers ∙ unchanged Finished next old new ends is
+
+-- One that is to have the guard.
+pub acquires-keep : (stage : Stage) (of : ℕ) (waker : Waker) (old : Monitor) (answer : Poll Permit) (next : Stage) (new : Monitor)
+    → Acquires stage of waker old (Ok answer) next new → Keeps stage old.condvar (Ok answer) (has_baton stage old.condvar) next new.condvar
+acquires-keep (Enqueue guard) of waker old answer next new (is, ends, same) =
+    ap (λ r. batons next new.condvar + ended r false) is
+    ∙ ap (λ s. batons s new.condvar + 0) ends ∙ ap (λ (m : Monitor). batons Finished m.condvar + 0) same ∙ omega arith
+acquires-keep (Registered slot) of waker old answer next new has = poll-keeps (Registered slot) of waker old (Ok answer) next new has
+acquires-keep (Reacquiring baton slot) of waker old answer next new has = poll-keeps (Reacquiring baton slot) of waker old (Ok answer) next new has
+acquires-keep Finished of waker old answer next new has = poll-keeps Finished of waker old (Ok answer) next new has
+
+-- who goes on without the guard keeps its baton
+no_baton : (next : Stage) → ended_while (Ok Pending) false next ≡ 0
+no_baton (Enqueue guard) = refl
+no_baton (Registered slot) = refl
+no_baton (Reacquiring along slot) = refl
+no_baton Finished = refl
+
+pub none-ended : (stage : Stage) (of : ℕ) (waker : Waker) (old : Monitor) (next : Stage) (new : Monitor)
+    → Acquires stage of waker old (Ok Pending) next new → ended_while (Ok Pending) (has_baton stage old.condvar) next ≡ 0
+none-ended (Enqueue guard) of waker old next new waits = no_baton next
+none-ended (Registered slot) of waker old next new waits = by_place (place_at slot old.condvar) waits
+  where
+    by_place : (place : Option Place) → PollsPlace place slot of waker old (Ok Pending) next new → ended_while (Ok Pending) (is_chosen place) next ≡ 0
+    by_place (Some (Queued before)) polls = no_baton next
+    by_place (Some Chosen) (waits, (place, fresh, ends, is)) = ap (λ s. ended_while (Ok Pending) true s) ends
+    by_place (Some Released) polls = no_baton next
+    by_place None polls = no_baton next
+none-ended (Reacquiring baton slot) of waker old next new (none, ends, is) = ap (λ s. ended_while (Ok Pending) baton s) ends
+none-ended Finished of waker old next new waits = no_baton next
 
 -- A cancel.
 first-stays : (slot first : ℕ) (ids : List ℕ) → slice_get (filter (λ other. not (other == slot)) ids) 0 ≡ Some first → (first ≢ slot) × (is_in first ids ≡ true)

@@ -1,10 +1,13 @@
 -- A poll of a wait with a condition, put together: room is made, the guard is had or not, and then the condition is asked.
-use Rattle.std.proofs.Common.{◌≡◌, refl, ℕ, ap, sym, ◌∙◌, subst, inl, inr, Bool, true, false, not, ◌⊎◌, Option, Some, None, Result, Ok, Err}
+use Rattle.std.proofs.Common.{◌≡◌, refl, ℕ, ◌+◌, ap, sym, ◌∙◌, subst, inl, inr, arith, Bool, true, false, not, ◌⊎◌, List, [], ◌∷◌, Option, Some, None, is_some, Result, Ok, Err}
 use Rattle.std.specs.Borrow.{MutBor}
 use Rattle.std.specs.Fn.{Mut, Called, CalledAtMut}
-use Rattle.std.specs.Prelude.{OnOk}
+use Rattle.std.specs.Prelude.{◌==◌, ◌&&◌, if◌then◌else◌, OnOk, MatchBool}
 use Rattle.std.specs.Result.{is_err}
 use Rattle.std.specs.declared.alloc.AllocError.{AllocError}
+use Rattle.std.proofs.lemmas.Bool.Decides.{nat_tests}
+use Rattle.std.proofs.lemmas.List.Sums.{sum_by-cons}
+use Rattle.band_balance.specs.Line.{Entry, total, is_served, entry_named}
 use Rattle.band_base.specs.declared.poll.Poll.{Poll}
 use Rattle.band_base.specs.declared.poll.Poll.TheVariants.{Ready, Pending}
 use Rattle.band_base.specs.declared.poll.PollError.{PollError}
@@ -12,11 +15,13 @@ use Rattle.band_base.specs.declared.poll.PollError.TheVariants as errors
 use Rattle.band_base.specs.declared.waker.Waker.{Waker}
 use Rattle.band_sem.specs.Permit.{Permit}
 use Rattle.band_sem.specs.Semaphore as sem
-use Rattle.band_sem.specs.Semaphore.{SemaphoreState, taken, received}
+use Rattle.band_sem.specs.Semaphore.{SemaphoreState, is_slot, taken, received}
 use Rattle.band_condvar.specs.declared.place.Place.{Place}
 use Rattle.band_condvar.specs.declared.place.Place.TheVariants.{Queued, Chosen, Released}
+use Rattle.band_condvar.specs.Batons.{chosen_count, batons, one_if, ended_while}
 use Rattle.band_condvar.specs.Condvar.{CondvarState, place_at, is_queued, with_waker, gone, with_spare}
-use Rattle.band_condvar.specs.Waits.{Stage, Enqueue, Registered, Reacquiring, Finished, Wait, Monitor, monitor, Test, Registers, Leaves, PollsPlace, PollsAt, Acquires, Answers, Asks, MayAsk, PollsWhileIf, PollsWhile, IsRoomier, may_ask}
+use Rattle.band_condvar.specs.Waits.{Stage, Enqueue, Registered, Reacquiring, Finished, Wait, Monitor, monitor, Test, Registers, Leaves, Reacquires, PollsPlace, PollsAt, Acquires, Answers, Asks, MayAsk, PollsWhileIf, PollsWhile, IsRoomier, JoinsMutex, has_turn, may_ask, has_baton}
+use Rattle.band_condvar.proofs.Batons.{joins, poll-keeps, acquires-keep, none-ended}
 
 -- a call at a `&mut`, by the values there
 pub called-at : {F T : Type 0} (g : Mut F (MutBor T × Unit {0}) (Bool × (MutBor T × Unit {0}))) {f f' : F} {lent left : MutBor T} {r : Bool}
@@ -76,6 +81,58 @@ finishes (Registered slot) of waker old guard next new polls = by_place (place_a
 finishes (Reacquiring baton slot) of waker old guard next new (there, gives, ends, same) = ends
 finishes Finished of waker old guard next new (is, ends, same) = absurd (cc)
 
+-- whose turn it was has the guard
+turn_at : (slot of : ℕ) (waker : Waker) (old : Monitor) (guard : Permit) (next : Stage) (new : Monitor) (place : Option Place)
+    → PollsPlace place slot of waker old (Ok (Ready guard)) next new → (not (is_queued place) && is_served 1 old.mutex.line) ≡ true
+turn_at slot of waker old guard next new (Some (Queued before)) (is, ends, same) = absurd (cc)
+turn_at slot of waker old guard next new (Some Chosen) (served, gives, ends, same) = served
+turn_at slot of waker old guard next new (Some Released) (served, gives, ends, same) = served
+turn_at slot of waker old guard next new None polls = absurd polls
+
+pub had-turn : (stage : Stage) (of : ℕ) (waker : Waker) (old : Monitor) (guard : Permit) (next : Stage) (new : Monitor)
+    → Acquires stage of waker old (Ok (Ready guard)) next new → has_turn stage old ≡ true
+had-turn (Enqueue guard') of waker old guard next new has = refl
+had-turn (Registered slot) of waker old guard next new has = turn_at slot of waker old guard next new (place_at slot old.condvar) has
+had-turn (Reacquiring baton slot) of waker old guard next new (there, gives, ends, same) = ap is_some there
+had-turn Finished of waker old guard next new (is, ends, same) = absurd (cc)
+
+-- and who goes on without it had no turn
+no_turn_at : (slot of : ℕ) (waker : Waker) (old : Monitor) (next : Stage) (new : Monitor) (place : Option Place)
+    → PollsPlace place slot of waker old (Ok Pending) next new → (not (is_queued place) && is_served 1 old.mutex.line) ≡ false
+no_turn_at slot of waker old next new (Some (Queued before)) polls = refl
+no_turn_at slot of waker old next new (Some Chosen) (waits, joins) = waits
+no_turn_at slot of waker old next new (Some Released) (waits, joins) = waits
+no_turn_at slot of waker old next new None polls = absurd polls
+
+no-turn : (stage : Stage) (of : ℕ) (waker : Waker) (old : Monitor) (next : Stage) (new : Monitor)
+    → Acquires stage of waker old (Ok Pending) next new → has_turn stage old ≡ false
+no-turn (Enqueue guard) of waker old next new (is, ends, same) = absurd (cc)
+no-turn (Registered slot) of waker old next new waits = no_turn_at slot of waker old next new (place_at slot old.condvar) waits
+no-turn (Reacquiring baton slot) of waker old next new (none, ends, same) = ap is_some none
+no-turn Finished of waker old next new (is, ends, same) = refl
+
+-- who may not ask is polled as one that is to have the guard
+polled : (stage : Stage) (of : ℕ) (waker : Waker) (old : Monitor) (result : Result (Poll Permit) PollError) (next : Stage) (new : Monitor) → may_ask stage old ≡ false
+    → PollsAt stage of waker old result next new → Acquires stage of waker old result next new
+polled (Enqueue guard) of waker old result next new may polls = absurd (cc)
+polled (Registered slot) of waker old result next new may polls = polls
+polled (Reacquiring baton slot) of waker old result next new may polls = polls
+polled Finished of waker old result next new may polls = polls
+
+-- where nobody was granted the mutex, this one was not
+none-granted : (slot : ℕ) (entries : List (Entry ℕ)) → entry_named (is_slot slot) entries ≡ Some (record { name = slot; size = 1 }) → total entries ≡ 0 → ⊥
+none-granted slot [] named none = absurd (cc)
+none-granted slot (x ∷ xs) named none = by_test (is_slot slot x.name) named (none-granted slot xs)
+  where
+    by_test : (b : Bool) → (if b then Some x else entry_named (is_slot slot) xs) ≡ Some (record { name = slot; size = 1 })
+        → (entry_named (is_slot slot) xs ≡ Some (record { name = slot; size = 1 }) → total xs ≡ 0 → ⊥) → ⊥
+    by_test true here rest = let one : x.size ≡ 1 = cc in let split = sum_by-cons (λ (e : Entry ℕ). e.size) x xs in omega (arith, one, split, none)
+    by_test false later rest = let split = sum_by-cons (λ (e : Entry ℕ). e.size) x xs in rest later (omega (arith, split, none))
+
+none_there : (baton : Bool) (slot of : ℕ) (waker : Waker) (old : Monitor) (guard : Permit) (next : Stage) (new : Monitor) → total old.mutex.line.granted ≡ 0
+    → Reacquires baton slot of waker old (Ok (Ready guard)) next new → ⊥
+none_there baton slot of waker old guard next new none (there, gives, ends, same) = none-granted slot old.mutex.line.granted there none
+
 -- more room, and more again
 more-room : (held had new : Monitor) → IsRoomier held had → IsRoomier had new → IsRoomier held new
 more-room held had new (room, mutex) (room', mutex') =
@@ -95,7 +152,7 @@ registers_all_the_same guard waker held had next new (room, mutex) registers =
     (subst (λ (c : CondvarState). Registers guard waker (monitor c had.mutex) (Ok Pending) next new) room registers)
 
 module _ {F T : Type 0} (g : Mut F (MutBor T × Unit {0}) (Bool × (MutBor T × Unit {0}))) (wait : Wait) (waker : Waker) (old made : CondvarState) (mutex : SemaphoreState)
-    (may : may_ask wait.stage old ≡ true) (room : made ≡ with_spare made.line.nodes.spare old) where
+    (may : may_ask wait.stage (monitor old mutex) ≡ true) (room : made ≡ with_spare made.line.nodes.spare old) where
   in-room : (answer : Poll Permit) (next : Stage) (had : Monitor) → Acquires wait.stage wait.of waker (monitor made mutex) (Ok answer) next had
       → (held : Monitor) × Acquires wait.stage wait.of waker (monitor old mutex) (Ok answer) next held × IsRoomier held had
   in-room answer next had acquires =
@@ -143,42 +200,115 @@ module _ {F T : Type 0} (g : Mut F (MutBor T × Unit {0}) (Bool × (MutBor T × 
 -- What a poll of a wait with a condition tells of the condition.
 module _ {F T : Type 0} (g : Mut F (MutBor T × Unit {0}) (Bool × (MutBor T × Unit {0}))) where
   -- one that may not ask is not ready
-  waits-still : (stage : Stage) (of : ℕ) (waker : Waker) (old new : Monitor) (guard : Permit) (next : Stage) → may_ask stage old.condvar ≡ false
+  waits-still : (stage : Stage) (of : ℕ) (waker : Waker) (old new : Monitor) (guard : Permit) (next : Stage) → may_ask stage old ≡ false
       → PollsAt stage of waker old (Ok (Ready guard)) next new → ⊥
   waits-still (Enqueue guard') of waker old new guard next may polls = polls
-  waits-still (Registered slot) of waker old new guard next may polls = by_place (place_at slot old.condvar) may polls
+  waits-still (Registered slot) of waker old new guard next may polls =
+      absurd (let never : true ≡ false = sym (turn_at slot of waker old guard next new (place_at slot old.condvar) polls) ∙ may in cc)
+  waits-still (Reacquiring baton slot) of waker old new guard next may polls = by_test (total old.mutex.line.granted == 0) refl may
     where
-      by_place : (place : Option Place) → not (is_queued place) ≡ false → PollsPlace place slot of waker old (Ok (Ready guard)) next new → ⊥
-      by_place (Some (Queued before)) may (answers, ends, is) = absurd (cc)
-      by_place (Some Chosen) may polls = absurd (cc)
-      by_place (Some Released) may polls = absurd (cc)
-      by_place None may polls = polls
-  waits-still (Reacquiring baton slot) of waker old new guard next may polls = absurd (cc)
+      by_test : (b : Bool) → (total old.mutex.line.granted == 0) ≡ b → not b ≡ false → ⊥
+      by_test true is may =
+          let none : total old.mutex.line.granted ≡ 0 = grind (arith, nat_tests) in none_there baton slot of waker old guard next new none polls
+      by_test false is may = let never : true ≡ false = may in absurd (cc)
   waits-still Finished of waker old new guard next may (answers, ends, is) = absurd (cc)
 
   pub ends-at-false : (wait next : Wait) (waker : Waker) (before after : Test F T) (old new : Monitor) (guard : Permit)
-      → PollsWhile g wait waker before old (Ok (Ready guard)) after next new → Answers g before false after
-  ends-at-false wait next waker before after old new guard (polls, of) = by_may (may_ask wait.stage old.condvar) refl polls
+      → PollsWhile g wait waker before old (Ok (Ready guard)) after next new → (has_turn wait.stage old ≡ true) × Answers g before false after
+  ends-at-false wait next waker before after old new guard (polls, of) = by_may (may_ask wait.stage old) refl polls
     where
-      by_may : (b : Bool) → may_ask wait.stage old.condvar ≡ b → PollsWhileIf g b wait.stage wait.of waker before old (Ok (Ready guard)) after next.stage new
-          → Answers g before false after
-      by_may true is (held, has, asked) = asked.0
+      by_may : (b : Bool) → may_ask wait.stage old ≡ b → PollsWhileIf g b wait.stage wait.of waker before old (Ok (Ready guard)) after next.stage new
+          → (has_turn wait.stage old ≡ true) × Answers g before false after
+      by_may true is (held, has, asked) = (had-turn wait.stage wait.of waker old guard Finished held has, asked.0)
       by_may false is polled = absurd (waits-still wait.stage wait.of waker old new guard next.stage is polled.0)
 
   pub goes-on-at-true : (wait next : Wait) (waker : Waker) (before after : Test F T) (old new : Monitor)
-      → PollsWhile g wait waker before old (Ok Pending) after next new → (after ≡ before) ⊎ Answers g before true after
-  goes-on-at-true wait next waker before after old new (polls, of) = by_may (may_ask wait.stage old.condvar) polls
+      → PollsWhile g wait waker before old (Ok Pending) after next new → MatchBool (has_turn wait.stage old) (Answers g before true after) (after ≡ before)
+  goes-on-at-true wait next waker before after old new (polls, of) = by_may (may_ask wait.stage old) refl polls
     where
-      by_may : (b : Bool) → PollsWhileIf g b wait.stage wait.of waker before old (Ok Pending) after next.stage new → (after ≡ before) ⊎ Answers g before true after
-      by_may true (inl (held, waits, same, room)) = inl same
-      by_may true (inr (guard, held, has, asked)) = inr asked.0
-      by_may false polled = inl polled.1
+      by_may : (b : Bool) → may_ask wait.stage old ≡ b → PollsWhileIf g b wait.stage wait.of waker before old (Ok Pending) after next.stage new
+          → MatchBool (has_turn wait.stage old) (Answers g before true after) (after ≡ before)
+      by_may true is (inl (held, waits, same, room)) = rw (no-turn wait.stage wait.of waker old next.stage held waits) same
+      by_may true is (inr (guard, held, has, asked)) = rw (had-turn wait.stage wait.of waker old guard Finished held has) asked.0
+      by_may false is (polls, same) =
+          rw (no-turn wait.stage wait.of waker old next.stage new (polled wait.stage wait.of waker old (Ok Pending) next.stage new is polls)) same
 
   pub refused-unasked : (wait next : Wait) (waker : Waker) (before after : Test F T) (old new : Monitor) (error : PollError)
       → PollsWhile g wait waker before old (Err error) after next new → after ≡ before
-  refused-unasked wait next waker before after old new error (polls, of) = by_may (may_ask wait.stage old.condvar) error polls
+  refused-unasked wait next waker before after old new error (polls, of) = by_may (may_ask wait.stage old) error polls
     where
       by_may : (b : Bool) (error : PollError) → PollsWhileIf g b wait.stage wait.of waker before old (Err error) after next.stage new → after ≡ before
       by_may true errors.NoMemory (same, ends, room) = same
       by_may true error polls = absurd polls
       by_may false error polled = polled.1
+
+  -- where a poll finds no memory
+  pub no-memory : (wait next : Wait) (waker : Waker) (before after : Test F T) (old new : Monitor) → PollsWhile g wait waker before old (Err errors.NoMemory) after next new
+      → (may_ask wait.stage old ≡ true) ⊎ JoinsMutex wait.stage old
+  no-memory wait next waker before after old new (polls, of) = by_may (may_ask wait.stage old) refl polls
+    where
+      at_place : (slot : ℕ) (place : Option Place) → PollsPlace place slot wait.of waker old (Err errors.NoMemory) next.stage new
+          → (is_queued place ≡ false) × (is_served 1 old.mutex.line ≡ false)
+      at_place slot (Some (Queued seen)) (answers, ends, is) = absurd (cc)
+      at_place slot (Some Chosen) (waits, ends, is) = (refl, waits)
+      at_place slot (Some Released) (waits, ends, is) = (refl, waits)
+      at_place slot None polls = absurd polls
+
+      joins_mutex : (stage : Stage) → may_ask stage old ≡ false → PollsAt stage wait.of waker old (Err errors.NoMemory) next.stage new → JoinsMutex stage old
+      joins_mutex (Enqueue guard) may polls = absurd (cc)
+      joins_mutex (Registered slot) may polls = at_place slot (place_at slot old.condvar) polls
+      joins_mutex (Reacquiring baton slot) may polls = absurd polls
+      joins_mutex Finished may (answers, ends, is) = absurd (cc)
+
+      by_may : (b : Bool) → may_ask wait.stage old ≡ b → PollsWhileIf g b wait.stage wait.of waker before old (Err errors.NoMemory) after next.stage new
+          → (may_ask wait.stage old ≡ true) ⊎ JoinsMutex wait.stage old
+      by_may true is polls = inl is
+      by_may false is polls = inr (joins_mutex wait.stage is polls.0)
+
+  pub in-line : (wait next : Wait) (waker : Waker) (before after : Test F T) (old new : Monitor) (result : Result (Poll Permit) PollError) (baton : Bool) (slot : ℕ)
+      → wait.stage ≡ Reacquiring baton slot → total old.mutex.line.granted ≡ 0 → PollsWhile g wait waker before old result after next new → result ≡ Ok Pending
+  in-line wait next waker before after old new result baton slot stage none (polls, of) =
+      by_result result (subst (λ b. PollsWhileIf g b (Reacquiring baton slot) wait.of waker before old result after next.stage new) (ap (λ n. not (n == 0)) none)
+      (subst (λ s. PollsWhileIf g (may_ask s old) s wait.of waker before old result after next.stage new) stage polls))
+    where
+      by_result : (result : Result (Poll Permit) PollError) → PollsWhileIf g false (Reacquiring baton slot) wait.of waker before old result after next.stage new
+          → result ≡ Ok Pending
+      by_result (Ok (Ready guard)) polls = absurd (none_there baton slot wait.of waker old guard next.stage new none polls.0)
+      by_result (Ok Pending) polls = refl
+      by_result (Err error) polls = absurd (polls.0)
+
+  -- the baton of a wait that has the mutex again has ended, and no other
+  pub while-keeps : (wait next : Wait) (waker : Waker) (before after : Test F T) (old new : Monitor) (result : Result (Poll Permit) PollError)
+      → PollsWhile g wait waker before old result after next new
+      → batons next.stage new.condvar + ended_while result (has_baton wait.stage old.condvar) next.stage ≡ batons wait.stage old.condvar
+  while-keeps wait next waker before after old new result (polls, of) = by_may (may_ask wait.stage old) refl result polls
+    where
+      counts : (held : Monitor) → IsRoomier held new → chosen_count new.condvar ≡ chosen_count held.condvar
+      counts held (room, mutex) = ap (λ (c : CondvarState). chosen_count c) room
+
+      by_may : (b : Bool) → may_ask wait.stage old ≡ b → (result : Result (Poll Permit) PollError)
+          → PollsWhileIf g b wait.stage wait.of waker before old result after next.stage new
+          → batons next.stage new.condvar + ended_while result (has_baton wait.stage old.condvar) next.stage ≡ batons wait.stage old.condvar
+      by_may true is (Ok (Ready guard)) (held, has, (answers, gives, ends, room)) =
+          let kept = acquires-keep wait.stage wait.of waker old (Ready guard) Finished held has in
+          let count = counts held room in
+          ap (λ s. batons s new.condvar + one_if (has_baton wait.stage old.condvar)) ends ∙ omega (arith, kept, count)
+      by_may true is (Ok Pending) (inl (held, waits, same, room)) =
+          let kept = acquires-keep wait.stage wait.of waker old Pending next.stage held waits in
+          let count = counts held room in
+          let none = none-ended wait.stage wait.of waker old next.stage held waits in
+          omega (arith, kept, count, none)
+      by_may true is (Ok Pending) (inr (guard, held, has, (answers, (ends, vacant, joined, given)))) =
+          let kept = acquires-keep wait.stage wait.of waker old (Ready guard) Finished held has in
+          let count = ap (λ (c : CondvarState). chosen_count c) joined ∙ joins waker new.condvar.line.nodes.spare held.condvar vacant in
+          ap (λ s. batons s new.condvar + ended_while (Ok Pending) (has_baton wait.stage old.condvar) s) ends ∙ omega (arith, kept, count)
+      by_may true is (Err errors.NoMemory) (same, ends, room) =
+          let count = counts old room in
+          ap (λ s. batons s new.condvar + 0) ends ∙ omega (arith, count)
+      by_may true is (Err error) polls = absurd polls
+      by_may false is (Ok (Ready guard)) (polls, same) = poll-keeps wait.stage wait.of waker old (Ok (Ready guard)) next.stage new polls
+      by_may false is (Ok Pending) (polls, same) =
+          let kept = poll-keeps wait.stage wait.of waker old (Ok Pending) next.stage new polls in
+          let none = none-ended wait.stage wait.of waker old next.stage new (polled wait.stage wait.of waker old (Ok Pending) next.stage new is polls) in
+          omega (arith, kept, none)
+      by_may false is (Err error) (polls, same) = poll-keeps wait.stage wait.of waker old (Err error) next.stage new polls

@@ -30,9 +30,21 @@ taken_along Finished = 0
 abbrev pub batons : Stage → CondvarState → ℕ
 batons stage state = chosen_count state + taken_along stage
 
+abbrev pub one_if : Bool → ℕ
+one_if true = 1
+one_if false = 0
+
 -- how many batons a poll ends: that of a wait that had one, and is ready
 abbrev pub ended : Result (Poll Permit) PollError → Bool → ℕ
-ended (Ok (Ready guard)) true = 1
-ended (Ok (Ready guard)) false = 0
+ended (Ok (Ready guard)) baton = one_if baton
 ended (Ok Pending) baton = 0
 ended (Err error) baton = 0
+
+-- and how many a poll of a wait with a condition: that of a wait that had one, and is ready or waits again
+abbrev pub ended_while : Result (Poll Permit) PollError → Bool → Stage → ℕ
+ended_while (Ok (Ready guard)) baton next = one_if baton
+ended_while (Ok Pending) baton (Registered slot) = one_if baton
+ended_while (Ok Pending) baton (Enqueue guard) = 0
+ended_while (Ok Pending) baton (Reacquiring along slot) = 0
+ended_while (Ok Pending) baton Finished = 0
+ended_while (Err error) baton next = 0

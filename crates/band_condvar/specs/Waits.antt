@@ -1,21 +1,26 @@
 -- The waits for a condition variable: what their polls and their cancel make of it and of its mutex.
-use Rattle.std.specs.Prelude.{◌≡◌, ◌≢◌, ℕ, ◌≤◌, ◌⊎◌, Bool, true, false, not, if◌then◌else◌, IsTrue, Option, Some, None, IsSome, Result, Ok, Err}
+use Rattle.std.specs.Prelude.{◌≡◌, ◌≢◌, ℕ, ◌+◌, ◌*◌, ◌≤◌, List, [], ◌==◌, ◌&&◌, ◌⊎◌, Bool, true, false, not, if◌then◌else◌, is_some, IsTrue, Option, Some, None, IsSome, Result, Ok, Err}
 use Rattle.std.specs.Borrow.{MutBor}
+use Rattle.std.specs.Option.{option_map_or}
 use Rattle.std.specs.Fn.{Mut, Takes, CalledAtMut}
-use Rattle.band_balance.specs.Line.{requests, is_served, entry_named}
+use Rattle.band_balance.specs.Line.{requests, total, is_served, entry_named}
 use Rattle.band_base.specs.declared.poll.Poll.{Poll}
 use Rattle.band_base.specs.declared.poll.Poll.TheVariants.{Ready, Pending}
 use Rattle.band_base.specs.declared.poll.PollError.{PollError}
 use Rattle.band_base.specs.declared.poll.PollError.TheVariants as errors
 use Rattle.band_base.specs.declared.waker.Waker.{Waker}
 use Rattle.band_line.specs.Arena.{next_slot}
+use Rattle.band_line.specs.WaitList.{first_waiter}
+use Rattle.band_line.specs.Visits.{Visits}
+use Rattle.band_sem.specs.Laws as sem_laws
 use Rattle.band_sem.specs.Permit.{Permit, new_permit}
 use Rattle.band_sem.specs.Request.{Joined}
 use Rattle.band_sem.specs.Semaphore as sem
 use Rattle.band_sem.specs.Semaphore.{SemaphoreState, IsLike, IsOwn, is_slot, taken, given_back, received, without_request}
+use Rattle.band_sem.specs.Visits.{served}
 use Rattle.band_condvar.specs.declared.place.Place.{Place}
 use Rattle.band_condvar.specs.declared.place.Place.TheVariants.{Queued, Chosen, Released}
-use Rattle.band_condvar.specs.Condvar.{CondvarState, place_at, is_queued, is_chosen, one_notified, joined, with_waker, gone, without, with_spare, StaysAt}
+use Rattle.band_condvar.specs.Condvar.{CondvarState, place_at, is_queued, is_chosen, wakers_of, one_notified, joined, with_waker, gone, without, with_spare, StaysAt}
 
 -- a condition variable with its mutex
 pub record Monitor : Type 0 where
@@ -147,6 +152,20 @@ LetsGo (Registered slot) old new = new ≡ old
 LetsGo (Reacquiring baton slot) old new = IsLike (without_request slot old) new
 LetsGo Finished old new = new ≡ old
 
+-- whom a cancel wakes: the first that is in line once the wait is gone, where it had the baton
+abbrev pub first_waker : CondvarState → List ℕ
+first_waker condvar = option_map_or (λ slot. wakers_of (place_at slot condvar)) (first_waiter condvar.line) []
+
+abbrev pub woken_by : Stage → CondvarState → List ℕ
+woken_by stage old = if has_baton stage old then first_waker (uncalled stage old) else []
+
+-- a request for the mutex that ends changes for the others there what it leaves to them
+abbrev pub LeavesMutex : Stage → SemaphoreState → SemaphoreState → Type 0
+LeavesMutex (Reacquiring baton slot) old new = sem_laws.LeavesOthers slot old new
+LeavesMutex (Enqueue guard) old new = Unit {0}
+LeavesMutex (Registered slot) old new = Unit {0}
+LeavesMutex Finished old new = Unit {0}
+
 -- the slot of another wait
 abbrev pub IsOther : ℕ → Stage → Type 0
 IsOther other (Registered slot) = other ≢ slot
@@ -169,17 +188,60 @@ abbrev pub Polls : Wait → Waker → Monitor → Result (Poll Permit) PollError
 Polls wait waker old result next new =
     PollsAt wait.stage wait.of waker old result next.stage new × (next.of ≡ wait.of)
 
+-- How many waits a poll visits, of the condition variable and of the mutex. Eight of the mutex are counted for each
+-- that an unlock serves, and eight more.
+abbrev pub unlock_visits : SemaphoreState → SemaphoreState → ℕ
+unlock_visits old new = 8 * (served old new + 1)
+
+abbrev pub PollVisits : Stage → SemaphoreState → SemaphoreState → ℕ → ℕ → Type 0
+PollVisits (Enqueue guard) old new before after = Visits 0 (unlock_visits old new + 2) before after
+PollVisits (Registered slot) old new before after = Visits 1 4 before after
+PollVisits (Reacquiring baton slot) old new before after = Visits 1 2 before after
+PollVisits Finished old new before after = after ≡ before
+
+-- a cancel
+abbrev pub CancelVisits : Stage → SemaphoreState → SemaphoreState → ℕ → ℕ → Type 0
+CancelVisits (Enqueue guard) old new before after = Visits 0 (unlock_visits old new) before after
+CancelVisits (Registered slot) old new before after = Visits 2 6 before after
+CancelVisits (Reacquiring baton slot) old new before after =
+    Visits 0 (unlock_visits old new + 3) before after
+CancelVisits Finished old new before after = after ≡ before
+
+-- a poll that may come to ask a condition, and to wait again
+abbrev pub WhileVisits : SemaphoreState → SemaphoreState → ℕ → ℕ → Type 0
+WhileVisits old new before after = Visits 0 (unlock_visits old new + 7) before after
+
 -- what contracts see of a wait that has a condition
 pub record WaitWhile (F : Type 0) : Type 0 where
   pub condition : F
   pub wait : Wait
 
--- whether a poll may come to ask the condition: not while the wait is in line, nor once it is finished
-abbrev pub may_ask : Stage → CondvarState → Bool
-may_ask (Enqueue guard) condvar = true
-may_ask (Registered slot) condvar = not (is_queued (place_at slot condvar))
-may_ask (Reacquiring baton slot) condvar = true
-may_ask Finished condvar = false
+-- one that was called and finds the mutex free has it at once
+abbrev pub is_free_for : ℕ → Monitor → Bool
+is_free_for slot old = not (is_queued (place_at slot old.condvar)) && is_served 1 old.mutex.line
+
+-- whose turn it is: a poll that finds memory has the guard, and asks the condition
+abbrev pub has_turn : Stage → Monitor → Bool
+has_turn (Enqueue guard) old = true
+has_turn (Registered slot) old = is_free_for slot old
+has_turn (Reacquiring baton slot) old = is_some (entry_named (is_slot slot) old.mutex.line.granted)
+has_turn Finished old = false
+
+-- one that was called joins the mutex's line, unless it is free
+abbrev pub JoinsMutex : Stage → Monitor → Type 0
+JoinsMutex (Registered slot) old =
+    (is_queued (place_at slot old.condvar) ≡ false) × (is_served 1 old.mutex.line ≡ false)
+JoinsMutex (Enqueue guard) old = ⊥
+JoinsMutex (Reacquiring baton slot) old = ⊥
+JoinsMutex Finished old = ⊥
+
+-- Whether a poll makes room to wait again, before it asks. One in the mutex's line doesn't look who was granted the
+-- mutex, but whether somebody was.
+abbrev pub may_ask : Stage → Monitor → Bool
+may_ask (Enqueue guard) old = true
+may_ask (Registered slot) old = is_free_for slot old
+may_ask (Reacquiring baton slot) old = not (total old.mutex.line.granted == 0)
+may_ask Finished old = false
 
 -- to have the guard: one that has it is finished, and each other is polled
 abbrev pub Acquires :
@@ -224,8 +286,8 @@ module _ {F T : Type 0} (g : Mut F (MutBor T × Unit {0}) (Bool × (MutBor T × 
       Answers before true after × Registers guard waker old (Ok Pending) stage new
   Asks guard waker before old (Err error) after stage new = ⊥
 
-  -- A poll that may ask the condition: it has the guard, or polls for it, and asks the condition once it has it. Where
-  -- there was no memory the condition was not asked.
+  -- A poll that may ask the condition: it asks once it has the guard. Where there was no memory to wait again, the
+  -- condition was not asked.
   abbrev pub MayAsk : Stage → ℕ → Waker → Test F T → Monitor → Result (Poll Permit) PollError
       → Test F T → Stage → Monitor → Type 0
   MayAsk stage of waker before old (Ok (Ready guard)) after next new =
@@ -245,7 +307,7 @@ module _ {F T : Type 0} (g : Mut F (MutBor T × Unit {0}) (Bool × (MutBor T × 
       (after ≡ before) × (next ≡ stage) × IsRoomier old new
   MayAsk stage of waker before old (Err error) after next new = ⊥
 
-  -- by whether it may: one that is in line still, or is finished, is polled as a wait
+  -- by whether it may: each other is polled as a wait, which asks for no room but in the mutex's line
   abbrev pub PollsWhileIf : Bool → Stage → ℕ → Waker → Test F T → Monitor
       → Result (Poll Permit) PollError → Test F T → Stage → Monitor → Type 0
   PollsWhileIf true stage of waker before old result after next new =
@@ -257,6 +319,5 @@ module _ {F T : Type 0} (g : Mut F (MutBor T × Unit {0}) (Bool × (MutBor T × 
   abbrev pub PollsWhile : Wait → Waker → Test F T → Monitor → Result (Poll Permit) PollError
       → Test F T → Wait → Monitor → Type 0
   PollsWhile wait waker before old result after next new =
-      PollsWhileIf (may_ask wait.stage old.condvar) wait.stage wait.of waker before old result after
-      next.stage new
+      PollsWhileIf (may_ask wait.stage old) wait.stage wait.of waker before old result after next.stage new
       × (next.of ≡ wait.of)

@@ -1,7 +1,8 @@
 //! The condition variable.
-ghost use Rattle.std.specs.Prelude.{◌≡◌};
+ghost use Rattle.std.specs.Prelude.{◌≡◌, ◌*◌, length};
 ghost use Rattle.band_condvar.specs.Condvar.{new_condvar, IsCondvar, one_notified, all_notified, TakesWake, AllStay};
 ghost use Rattle.band_condvar.specs.Waits.{Enqueue};
+ghost use Rattle.band_line.specs.Visits.{Visits};
 
 use crate::place::Place;
 use crate::queue::Queue;
@@ -42,6 +43,7 @@ impl Condvar {
         ensures state { self.new ≡ one_notified self.old }
         ensures stay { AllStay self.old self.new }
         ensures sound { IsCondvar self.new }
+        ensures visits { Visits 0 3 steps.old steps.new }
     {
         self.queue.call_first(Place::Chosen, steps);
     }
@@ -51,6 +53,7 @@ impl Condvar {
         ensures state { self.new ≡ all_notified self.old }
         ensures stay { AllStay self.old self.new }
         ensures sound { IsCondvar self.new }
+        ensures visits { Visits 0 (3 * length self.old.line.linked) steps.old steps.new }
     {
         self.queue.release_all(steps);
     }

@@ -1,7 +1,8 @@
 //! Who waits for a condition variable, and whom to wake.
-ghost use Rattle.std.specs.Prelude.{◌≡◌, ◌+◌, ◌<◌, ◌≤◌, false, length, [], Some, OnOk, OnErr, IsSome, IsTrue};
+ghost use Rattle.std.specs.Prelude.{◌≡◌, ◌+◌, ◌*◌, ◌<◌, ◌≤◌, false, length, [], Some, OnOk, OnErr, IsSome, IsTrue, MatchBool, if◌then◌else◌};
 ghost use Rattle.band_line.specs.Arena.{next_slot};
-ghost use Rattle.band_line.specs.WaitList.{waiter_at, first_waiter, IsUnlinked, IsWaitList};
+ghost use Rattle.band_line.specs.Visits.{Visits};
+ghost use Rattle.band_line.specs.WaitList.{waiter_at, is_linked, first_waiter, IsUnlinked, IsWaitList};
 ghost use Rattle.band_condvar.specs.Condvar.{new_condvar, IsCondvar, place_at, is_queued, is_chosen, all_notified, joined, gone, without, with_spare, TakesWake, AllStay};
 ghost use Rattle.band_condvar.specs.Waits.{Registered, LeavesOthers};
 ghost use Rattle.band_condvar.specs.Kept.Queue.{HasRoom, CallsFirst, Looks};
@@ -66,6 +67,7 @@ impl Queue {
         ensures fewer { IsTrue result
             → length self.new.state.line.linked + 1 ≡ length self.old.state.line.linked }
         ensures sound { IsCondvar self.new.state }
+        ensures visits { MatchBool result (Visits 1 3 steps.old steps.new) (steps.new ≡ steps.old) }
     {
         let Some(first) = self.list.first() else {
             return false;
@@ -86,6 +88,7 @@ impl Queue {
         ensures state { self.new.state ≡ all_notified self.old.state }
         ensures stay { AllStay self.old.state self.new.state }
         ensures sound { IsCondvar self.new.state }
+        ensures visits { Visits 0 (3 * length self.old.state.line.linked) steps.old steps.new }
     {
         while self.call_first(Place::Released, steps) {}
     }
@@ -115,6 +118,7 @@ impl Queue {
         ensures here { IsSome (place_at result self.new.state) }
         ensures others { LeavesOthers (Registered result) self.old.state self.new.state }
         ensures sound { IsCondvar self.new.state }
+        ensures visits { Visits 1 2 steps.old steps.new }
     {
         self.waiting += 1;
         self.list.push_back(Place::Queued(waker), steps)
@@ -133,6 +137,7 @@ impl Queue {
         ensures room { HasRoom self.old → HasRoom self.new }
         ensures others { LeavesOthers (Registered id) self.old.state self.new.state }
         ensures sound { IsCondvar self.new.state }
+        ensures visits { steps.new ≡ steps.old + 1 }
     {
         self.list.waiter_mut(id, steps).leave(waker)
     }
@@ -142,6 +147,7 @@ impl Queue {
         requires { IsSome (place_at id self.old.state) }
         ensures queued { result ≡ is_queued (place_at id self.old.state) }
         ensures same { self.new ≡ self.old }
+        ensures visits { steps.new ≡ steps.old + 1 }
     {
         matches!(self.list.waiter_mut(id, steps), Place::Queued(_))
     }
@@ -154,6 +160,7 @@ impl Queue {
         ensures room { HasRoom self.old → HasRoom self.new }
         ensures others { LeavesOthers (Registered id) self.old.state self.new.state }
         ensures sound { IsCondvar self.new.state }
+        ensures visits { steps.new ≡ steps.old + 1 }
     {
         self.list.remove_unlinked_waiter(id, steps);
     }
@@ -165,6 +172,7 @@ impl Queue {
         ensures state { self.new.state ≡ without id self.old.state }
         ensures others { LeavesOthers (Registered id) self.old.state self.new.state }
         ensures sound { IsCondvar self.new.state }
+        ensures visits { Visits 2 (if result then 3 else 5) steps.old steps.new }
     {
         let place = call(&mut self.list, id, Place::Released, steps);
         self.list.remove_unlinked_waiter(id, steps);
@@ -200,6 +208,9 @@ fn call<L: Ledger>(
     ensures was { waiter_at id list.old ≡ Some result }
     ensures state { IsUnlinked id place list.old list.new }
     ensures sound { IsWaitList list.old }
+    ensures visits { Visits 1 4 steps.old steps.new }
+    ensures first { first_waiter list.old ≡ Some id → steps.new ≤ steps.old + 3 }
+    ensures already { is_linked id list.old ≡ false → steps.new ≤ steps.old + 2 }
 {
     match list.unlink_waiter(id, |_| true, steps) {
         Some(current) => mem::replace(current, place),

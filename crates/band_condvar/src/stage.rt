@@ -1,12 +1,15 @@
 //! What a wait has come to.
-ghost use Rattle.std.specs.Prelude.{◌≡◌, ◌≤◌, false, IsSome, if◌then◌else◌};
+ghost use Rattle.std.specs.Prelude.{◌≡◌, ◌+◌, ◌++◌, ◌≤◌, false, IsSome, if◌then◌else◌};
+ghost use Rattle.band_balance.specs.Line.{is_served};
 ghost use Rattle.band_base.specs.declared.poll.Poll.TheVariants as poll;
 ghost use Rattle.band_condvar.specs.Condvar.{IsCondvar, place_at, is_queued, one_notified, AllStay};
 ghost use Rattle.band_condvar.specs.declared.stage.Stage.TheVariants as stages;
 ghost use Rattle.band_condvar.specs.Kept.Queue.{HasRoom};
-ghost use Rattle.band_condvar.specs.Kept.Stage.{stage_of, slot_of, Fits, GivesGuardOf};
-ghost use Rattle.band_condvar.specs.Waits.{Enqueue, Registered, IsHere, IsRegistered, monitor, Registers, Leaves, Reacquires, PollsAt, Acquires, LeavesOthers, OthersStay, LetsGo, cancelled, may_ask};
+ghost use Rattle.band_condvar.specs.Kept.Stage.{stage_of, slot_of, Fits, GivesGuardOf, AcquireVisits};
+ghost use Rattle.band_condvar.specs.Waits.{Enqueue, Registered, IsHere, woken_by, LeavesMutex, IsRegistered, monitor, Registers, Leaves, Reacquires, PollsAt, Acquires, LeavesOthers, OthersStay, LetsGo, cancelled, may_ask, PollVisits, CancelVisits, unlock_visits};
+ghost use Rattle.band_line.specs.Visits.{Visits};
 ghost use Rattle.band_sem.specs.Request.{Joined};
+ghost use Rattle.band_sem.specs.Laws.{KeepsOrder};
 ghost use Rattle.band_sem.specs.Semaphore.{IsLawful, IsOwn};
 ghost use Rattle.band_sem.specs.Whole.{IsWhole};
 
@@ -54,9 +57,11 @@ impl Stage {
         ensures here { IsHere (stage_of result.next) queue.new.state m.new }
         ensures others { LeavesOthers (stage_of self) queue.old.state queue.new.state }
         ensures number { m.new.number ≡ m.old.number }
+        ensures order { KeepsOrder m.old.line m.new.line }
         ensures sound { IsCondvar queue.new.state }
         ensures lawful { IsLawful m.new }
         ensures whole { IsWhole 1 m.new }
+        ensures visits { PollVisits (stage_of self) m.old m.new steps.old steps.new }
     {
         match self {
             Stage::Enqueue(guard) => enqueue(guard, queue, m, waker, steps),
@@ -82,9 +87,11 @@ impl Stage {
         ensures others { LeavesOthers (stage_of self) queue.old.state queue.new.state }
         ensures room { HasRoom queue.old → HasRoom queue.new }
         ensures number { m.new.number ≡ m.old.number }
+        ensures order { KeepsOrder m.old.line m.new.line }
         ensures sound { IsCondvar queue.new.state }
         ensures lawful { IsLawful m.new }
         ensures whole { IsWhole 1 m.new }
+        ensures visits { AcquireVisits (stage_of self) steps.old steps.new }
     {
         match self {
             Stage::Enqueue(guard) => {
@@ -111,15 +118,22 @@ impl Stage {
         }
     }
 
-    /// Whether a poll may come to have the guard.
-    pub(crate) fn may_ask<L: Ledger>(&self, queue: &mut Queue, steps: &mut Steps<L>) -> bool
+    /// Whether a poll may come to have the guard, and to wait again.
+    pub(crate) fn may_ask<L: Ledger>(
+        &self,
+        queue: &mut Queue,
+        m: &MutexState,
+        steps: &mut Steps<L>,
+    ) -> bool
         requires { IsRegistered (stage_of self.now) queue.old.state }
-        ensures may { result ≡ may_ask (stage_of self.now) queue.old.state }
+        ensures may { result ≡ may_ask (stage_of self.now) (monitor queue.old.state m.now) }
         ensures same { queue.new ≡ queue.old }
+        ensures visits { Visits 0 1 steps.old steps.new }
     {
         match self {
-            Stage::Registered(id) => !queue.is_queued(*id, steps),
-            Stage::Enqueue(_) | Stage::Reacquiring { .. } => true,
+            Stage::Enqueue(_) => true,
+            Stage::Registered(id) => !queue.is_queued(*id, steps) && is_free(m),
+            Stage::Reacquiring { .. } => m.semaphore().granted_permits() != 0,
             Stage::Finished => false,
         }
     }
@@ -135,11 +149,16 @@ impl Stage {
         requires here { IsHere (stage_of self) queue.old.state m.old }
         ensures state { queue.new.state ≡ cancelled (stage_of self) queue.old.state }
         ensures lets_go { LetsGo (stage_of self) m.old m.new }
+        ensures wakes { queue.new.state.wakes
+            ≡ queue.old.state.wakes ++ woken_by (stage_of self) queue.old.state }
+        ensures leaves { LeavesMutex (stage_of self) m.old m.new }
         ensures others { OthersStay (stage_of self) queue.old.state queue.new.state }
         ensures number { m.new.number ≡ m.old.number }
+        ensures order { KeepsOrder m.old.line m.new.line }
         ensures sound { IsCondvar queue.new.state }
         ensures lawful { IsLawful m.new }
         ensures whole { IsWhole 1 m.new }
+        ensures visits { CancelVisits (stage_of self) m.old m.new steps.old steps.new }
     {
         match self {
             Stage::Enqueue(guard) => {
@@ -212,9 +231,11 @@ pub(crate) fn register<L: Ledger>(
     ensures here { IsSome (place_at result queue.new.state) }
     ensures others { LeavesOthers (Enqueue guard) queue.old.state queue.new.state }
     ensures number { m.new.number ≡ m.old.number }
+    ensures order { KeepsOrder m.old.line m.new.line }
     ensures sound { IsCondvar queue.new.state }
     ensures lawful { IsLawful m.new }
     ensures whole { IsWhole 1 m.new }
+    ensures visits { Visits 0 (unlock_visits m.old m.new + 2) steps.old steps.new }
 {
     let id = queue.join(waker, steps);
     m.drop_guard(guard, steps);
@@ -237,9 +258,11 @@ fn enqueue<L: Ledger>(
     ensures here { IsHere (stage_of result.next) queue.new.state m.new }
     ensures others { LeavesOthers (Enqueue guard) queue.old.state queue.new.state }
     ensures number { m.new.number ≡ m.old.number }
+    ensures order { KeepsOrder m.old.line m.new.line }
     ensures sound { IsCondvar queue.new.state }
     ensures lawful { IsLawful m.new }
     ensures whole { IsWhole 1 m.new }
+    ensures visits { Visits 0 (unlock_visits m.old m.new + 2) steps.old steps.new }
 {
     if queue.reserve().is_err() {
         touch(queue, m);
@@ -274,9 +297,11 @@ fn leave<L: Ledger>(
     ensures others { LeavesOthers (Registered id) queue.old.state queue.new.state }
     ensures room { HasRoom queue.old → HasRoom queue.new }
     ensures number { m.new.number ≡ m.old.number }
+    ensures order { KeepsOrder m.old.line m.new.line }
     ensures sound { IsCondvar queue.new.state }
     ensures lawful { IsLawful m.new }
     ensures whole { IsWhole 1 m.new }
+    ensures visits { Visits 0 3 steps.old steps.new }
 {
     let mut request = m.lock();
     match request.poll_once(m, waker, steps) {
@@ -320,9 +345,11 @@ fn reacquire<L: Ledger>(
     ensures guard { GivesGuardOf m.new.number result.answer }
     ensures here { IsHere (stage_of result.next) queue.now.state m.new }
     ensures number { m.new.number ≡ m.old.number }
+    ensures order { KeepsOrder m.old.line m.new.line }
     ensures sound { IsCondvar queue.now.state }
     ensures lawful { IsLawful m.new }
     ensures whole { IsWhole 1 m.new }
+    ensures visits { Visits 1 2 steps.old steps.new }
 {
     queue.touch();
     match request.poll_once(m, waker, steps) {
@@ -346,6 +373,7 @@ fn hand_on<L: Ledger>(has_baton: bool, queue: &mut Queue, steps: &mut Steps<L>)
     ensures state { queue.new.state ≡ (if has_baton then one_notified queue.old.state else queue.old.state) }
     ensures stay { AllStay queue.old.state queue.new.state }
     ensures sound { IsCondvar queue.new.state }
+    ensures visits { Visits 0 (if has_baton then 3 else 0) steps.old steps.new }
 {
     if has_baton {
         queue.call_first(Place::Chosen, steps);
@@ -354,9 +382,17 @@ fn hand_on<L: Ledger>(has_baton: bool, queue: &mut Queue, steps: &mut Steps<L>)
     }
 }
 
+/// Whether somebody who asks for the mutex has it at once.
+fn is_free(m: &MutexState) -> bool
+    ensures { result ≡ is_served 1 m.now.line }
+{
+    m.semaphore().waiting_count() == 0 && m.semaphore().free() >= 1
+}
+
 /// Does nothing: a caller that changes nothing learns what holds.
 pub(crate) fn touch(queue: &Queue, m: &MutexState)
     ensures sound { IsCondvar queue.now.state }
+    ensures order { KeepsOrder m.now.line m.now.line }
     ensures lawful { IsLawful m.now }
     ensures whole { IsWhole 1 m.now }
 {

@@ -120,6 +120,36 @@ fn it_waits_while<L: Ledger, R: Abort>(rt: &R, alloc: Global, steps: &mut Steps<
     locked(rt, &mut mutex).lose();
 }
 
+/// One that was released stands in the mutex's line while that is locked, and leaves its new waker there.
+fn it_stands_in_the_mutexs_line<L: Ledger, R: Abort>(rt: &R, alloc: Global, steps: &mut Steps<L>) {
+    let mut mutex = MutexState::new(alloc, 5);
+    let mut condvar = Condvar::new(alloc);
+    let mut value = 0u64;
+    let guard = locked(rt, &mut mutex);
+    let mut wait = condvar.wait_while(guard, |value: &mut u64| *value == 0);
+    pending(
+        rt,
+        wait.poll(&mut condvar, &mut mutex, &mut value, Waker(1), steps),
+    );
+    let guard = locked(rt, &mut mutex);
+    value = 1;
+    condvar.notify_all(steps);
+    assert_eq!(rt; number(condvar.take_wake()), 1);
+    pending(
+        rt,
+        wait.poll(&mut condvar, &mut mutex, &mut value, Waker(2), steps),
+    );
+    pending(
+        rt,
+        wait.poll(&mut condvar, &mut mutex, &mut value, Waker(3), steps),
+    );
+    assert_eq!(rt; mutex.semaphore().waiting_count(), 1);
+    wait.cancel(&mut condvar, &mut mutex, steps);
+    assert_eq!(rt; mutex.semaphore().waiting_count(), 0);
+    assert_eq!(rt; number(condvar.take_wake()), 0);
+    guard.lose();
+}
+
 fn each_life<L: Ledger, R: Abort>(rt: &R, alloc: Global, blank: Blank)
     requires name { blank.name ≡ L.name }
     requires parts { blank.parts ≡ L.parts }
@@ -129,6 +159,7 @@ fn each_life<L: Ledger, R: Abort>(rt: &R, alloc: Global, blank: Blank)
     the_baton_is_handed_on(rt, alloc, &mut steps);
     the_baton_goes_along(rt, alloc, &mut steps);
     it_waits_while(rt, alloc, &mut steps);
+    it_stands_in_the_mutexs_line(rt, alloc, &mut steps);
 }
 
 #[test]

@@ -1,10 +1,12 @@
 //! A wait for a condition variable.
-ghost use Rattle.std.specs.Prelude.{◌≡◌, ◌≤◌};
+ghost use Rattle.std.specs.Prelude.{◌≡◌, ◌+◌, ◌++◌, ◌≤◌};
 ghost use Rattle.band_base.specs.declared.poll.Poll.TheVariants as poll;
 ghost use Rattle.band_condvar.specs.Condvar.{IsCondvar};
 ghost use Rattle.band_condvar.specs.Kept.Queue.{HasRoom};
-ghost use Rattle.band_condvar.specs.Kept.Stage.{GivesGuardOf};
-ghost use Rattle.band_condvar.specs.Waits.{Enqueue, Finished, IsHere, IsRegistered, may_ask, monitor, Registers, Acquires, Polls, LeavesOthers, OthersStay, LetsGo, cancelled};
+ghost use Rattle.band_condvar.specs.Kept.Stage.{GivesGuardOf, AcquireVisits};
+ghost use Rattle.band_condvar.specs.Waits.{Enqueue, Finished, IsHere, woken_by, LeavesMutex, IsRegistered, may_ask, monitor, Registers, Acquires, Polls, LeavesOthers, OthersStay, LetsGo, cancelled, PollVisits, CancelVisits, unlock_visits};
+ghost use Rattle.band_sem.specs.Laws.{KeepsOrder};
+ghost use Rattle.band_line.specs.Visits.{Visits};
 ghost use Rattle.band_sem.specs.Semaphore.{IsLawful};
 ghost use Rattle.band_sem.specs.Whole.{IsWhole};
 
@@ -67,9 +69,11 @@ impl CondWait {
         ensures here { IsHere self.new.stage cv.new m.new }
         ensures others { LeavesOthers self.old.stage cv.old cv.new }
         ensures number { m.new.number ≡ m.old.number }
+        ensures order { KeepsOrder m.old.line m.new.line }
         ensures sound { IsCondvar cv.new }
         ensures lawful { IsLawful m.new }
         ensures whole { IsWhole 1 m.new }
+        ensures visits { PollVisits self.old.stage m.old m.new steps.old steps.new }
     {
         let stage = mem::replace(&mut self.stage, Stage::Finished);
         let Polled { next, answer } = stage.poll(&mut cv.queue, m, waker, steps);
@@ -77,13 +81,19 @@ impl CondWait {
         answer
     }
 
-    /// Whether a poll may come to have the guard.
-    pub(crate) fn may_ask<L: Ledger>(&self, queue: &mut Queue, steps: &mut Steps<L>) -> bool
+    /// Whether a poll may come to have the guard, and to wait again.
+    pub(crate) fn may_ask<L: Ledger>(
+        &self,
+        queue: &mut Queue,
+        m: &MutexState,
+        steps: &mut Steps<L>,
+    ) -> bool
         requires { IsRegistered self.now.stage queue.old.state }
-        ensures may { result ≡ may_ask self.now.stage queue.old.state }
+        ensures may { result ≡ may_ask self.now.stage (monitor queue.old.state m.now) }
         ensures same { queue.new ≡ queue.old }
+        ensures visits { Visits 0 1 steps.old steps.new }
     {
-        self.stage.may_ask(queue, steps)
+        self.stage.may_ask(queue, m, steps)
     }
 
     /// Has the guard, or polls for it. Room that was made is still there.
@@ -104,9 +114,11 @@ impl CondWait {
         ensures others { LeavesOthers self.old.stage queue.old.state queue.new.state }
         ensures room { HasRoom queue.old → HasRoom queue.new }
         ensures number { m.new.number ≡ m.old.number }
+        ensures order { KeepsOrder m.old.line m.new.line }
         ensures sound { IsCondvar queue.new.state }
         ensures lawful { IsLawful m.new }
         ensures whole { IsWhole 1 m.new }
+        ensures visits { AcquireVisits self.old.stage steps.old steps.new }
     {
         let stage = mem::replace(&mut self.stage, Stage::Finished);
         let Polled { next, answer } = stage.acquire(queue, m, waker, steps);
@@ -133,9 +145,11 @@ impl CondWait {
         ensures here { IsHere self.new.stage queue.new.state m.new }
         ensures others { LeavesOthers (Enqueue guard) queue.old.state queue.new.state }
         ensures number { m.new.number ≡ m.old.number }
+        ensures order { KeepsOrder m.old.line m.new.line }
         ensures sound { IsCondvar queue.new.state }
         ensures lawful { IsLawful m.new }
         ensures whole { IsWhole 1 m.new }
+        ensures visits { Visits 0 (unlock_visits m.old m.new + 2) steps.old steps.new }
     {
         let id = register(guard, queue, m, waker, steps);
         put(&mut self.stage, Stage::Registered(id));
@@ -147,11 +161,15 @@ impl CondWait {
         requires here { IsHere self.stage cv.old m.old }
         ensures state { cv.new ≡ cancelled self.stage cv.old }
         ensures lets_go { LetsGo self.stage m.old m.new }
+        ensures wakes { cv.new.wakes ≡ cv.old.wakes ++ woken_by self.stage cv.old }
+        ensures leaves { LeavesMutex self.stage m.old m.new }
         ensures others { OthersStay self.stage cv.old cv.new }
         ensures number { m.new.number ≡ m.old.number }
+        ensures order { KeepsOrder m.old.line m.new.line }
         ensures sound { IsCondvar cv.new }
         ensures lawful { IsLawful m.new }
         ensures whole { IsWhole 1 m.new }
+        ensures visits { CancelVisits self.stage m.old m.new steps.old steps.new }
     {
         let CondWait { of: _, stage } = self;
         stage.cancel(&mut cv.queue, m, steps);

@@ -1,8 +1,10 @@
 //! A wait for as long as a condition answers true.
-ghost use Rattle.std.specs.Prelude.{◌≡◌, ◌≤◌};
+ghost use Rattle.std.specs.Prelude.{◌≡◌, ◌+◌, ◌++◌, ◌≤◌, IsTrue};
 ghost use Rattle.band_condvar.specs.Condvar.{IsCondvar};
 ghost use Rattle.band_condvar.specs.Kept.Queue.{HasRoom};
-ghost use Rattle.band_condvar.specs.Waits.{Enqueue, Finished, IsHere, monitor, test, Answers, Asks, PollsWhile, LeavesOthers, OthersStay, LetsGo, cancelled, TakesAtMut};
+ghost use Rattle.band_condvar.specs.Waits.{Enqueue, Finished, IsHere, woken_by, LeavesMutex, has_turn, monitor, test, Answers, Asks, PollsWhile, LeavesOthers, OthersStay, LetsGo, cancelled, TakesAtMut, WhileVisits, CancelVisits, unlock_visits};
+ghost use Rattle.band_sem.specs.Laws.{KeepsOrder};
+ghost use Rattle.band_line.specs.Visits.{Visits};
 ghost use Rattle.band_sem.specs.Semaphore.{IsLawful};
 ghost use Rattle.band_sem.specs.Whole.{IsWhole};
 
@@ -43,7 +45,7 @@ impl<F> CondWaitWhile<F> {
     }
 
     /// Asks the condition about the value whenever the mutex is had: it is ready where that answers false, and else it
-    /// waits. A poll that may ask makes all its room before.
+    /// waits. A poll that may ask makes all its room before, for which it may take memory.
     pub fn poll<T, L: Ledger>(
         &mut self,
         cv: &mut Condvar,
@@ -56,7 +58,8 @@ impl<F> CondWaitWhile<F> {
         F: FnMut(&mut T) -> bool,
         requires number { self.old.wait.of ≡ m.old.number }
         requires here { IsHere self.old.wait.stage cv.old m.old }
-        requires callable { TakesAtMut F.FnMut self.old.condition value.old }
+        requires callable { IsTrue (has_turn self.old.wait.stage (monitor cv.old m.old))
+            → TakesAtMut F.FnMut self.old.condition value.old }
         ensures polls { PollsWhile F.FnMut self.old.wait waker (test self.old.condition value.old)
             (monitor cv.old m.old) result (test self.new.condition value.new) self.new.wait
             (monitor cv.new m.new) }
@@ -66,8 +69,9 @@ impl<F> CondWaitWhile<F> {
         ensures sound { IsCondvar cv.new }
         ensures lawful { IsLawful m.new }
         ensures whole { IsWhole 1 m.new }
+        ensures visits { WhileVisits m.old m.new steps.old steps.new }
     {
-        if !self.wait.may_ask(&mut cv.queue, steps) {
+        if !self.wait.may_ask(&mut cv.queue, m, steps) {
             return self.wait.poll(cv, m, waker, steps);
         }
         if cv.queue.reserve().is_err() {
@@ -119,6 +123,7 @@ impl<F> CondWaitWhile<F> {
         ensures sound { IsCondvar queue.new.state }
         ensures lawful { IsLawful m.new }
         ensures whole { IsWhole 1 m.new }
+        ensures visits { Visits 0 (unlock_visits m.old m.new + 2) steps.old steps.new }
     {
         if self.goes_on(value) {
             self.wait.register(guard, queue, m, waker, steps);
@@ -136,11 +141,15 @@ impl<F: Drop> CondWaitWhile<F> {
         requires here { IsHere self.wait.stage cv.old m.old }
         ensures state { cv.new ≡ cancelled self.wait.stage cv.old }
         ensures lets_go { LetsGo self.wait.stage m.old m.new }
+        ensures wakes { cv.new.wakes ≡ cv.old.wakes ++ woken_by self.wait.stage cv.old }
+        ensures leaves { LeavesMutex self.wait.stage m.old m.new }
         ensures others { OthersStay self.wait.stage cv.old cv.new }
         ensures number { m.new.number ≡ m.old.number }
+        ensures order { KeepsOrder m.old.line m.new.line }
         ensures sound { IsCondvar cv.new }
         ensures lawful { IsLawful m.new }
         ensures whole { IsWhole 1 m.new }
+        ensures visits { CancelVisits self.wait.stage m.old m.new steps.old steps.new }
     {
         let CondWaitWhile { condition: _, wait } = self;
         wait.cancel(cv, m, steps);

@@ -7,6 +7,7 @@ use Rattle.band_base.specs.declared.poll.PollError.TheVariants as errors
 use Rattle.band_base.specs.declared.waker.Waker.{Waker}
 use Rattle.band_line.specs.Arena.{arena_map, next_slot}
 use Rattle.band_line.specs.WaitList.{WaitListState, empty_list, waiter_at, is_linked, first_waiter, pushed_back, with_list_room, with_waiter, detached, unlinked, removed_waiter}
+use Rattle.band_line.specs.Visits.{Visits}
 use Rattle.band_signal.specs.Waits.{Life, NotPolled, Registered, Finished, IsOther}
 use Rattle.band_event.specs.declared.place.Place.{Place}
 use Rattle.band_event.specs.declared.place.Place.TheVariants.{Queued, Called}
@@ -181,3 +182,17 @@ abbrev pub OthersStay : Life → QueueState → QueueState → Type 0
 OthersStay life old new = (other : ℕ) → IsOther other life → IsSome (place_at other old)
     → IsSome (place_at other new)
     × (is_called (place_at other old) ≡ true → is_called (place_at other new) ≡ true)
+
+-- how many waits a poll visits: the one that joins, or is in the queue
+abbrev pub PollVisits : Life → Result (Poll Unit) PollError → ℕ → ℕ → Type 0
+PollVisits NotPolled (Ok Pending) before after = Visits 1 2 before after
+PollVisits NotPolled (Ok (Ready output)) before after = after ≡ before
+PollVisits NotPolled (Err error) before after = after ≡ before
+PollVisits (Registered slot) result before after = Visits 1 2 before after
+PollVisits Finished result before after = after ≡ before
+
+-- and a cancel: the one that it takes out, its neighbours, and whom it calls. How many those are at most is told
+abbrev pub CancelVisits : ℕ → Life → ℕ → ℕ → Type 0
+CancelVisits most (Registered slot) before after = Visits 2 most before after
+CancelVisits most NotPolled before after = after ≡ before
+CancelVisits most Finished before after = after ≡ before

@@ -1,6 +1,7 @@
 //! The auto-reset event.
 ghost use Rattle.std.specs.Prelude.{◌≡◌, false};
-ghost use Rattle.band_event.specs.Event.{new_event, IsEvent, IsHere, PollsAuto, LeavesOthers, OthersStay, signalled, cancelled_auto, StayHere, TakesWake};
+ghost use Rattle.band_event.specs.Event.{new_event, IsEvent, IsHere, PollsAuto, LeavesOthers, OthersStay, signalled, cancelled_auto, StayHere, TakesWake, PollVisits, CancelVisits};
+ghost use Rattle.band_line.specs.Visits.{Visits};
 ghost use Rattle.band_signal.specs.Waits.{NotPolled, Finished};
 
 use crate::queue::Queue;
@@ -74,6 +75,7 @@ impl AutoResetEvent {
         ensures state { self.new ≡ signalled self.old }
         ensures stay { StayHere self.old.queue self.new.queue }
         ensures sound { IsEvent self.new }
+        ensures visits { Visits 0 3 steps.old steps.new }
     {
         if !self.queue.call_first(steps) {
             self.is_set = true;
@@ -133,6 +135,7 @@ impl AutoWait {
         ensures here { IsHere self.new event.new.queue }
         ensures others { LeavesOthers self.old event.old.queue event.new.queue }
         ensures sound { IsEvent event.new }
+        ensures visits { PollVisits self.old result steps.old steps.new }
     {
         if self.wait.is_not_polled() && event.is_set {
             event.reset();
@@ -148,6 +151,7 @@ impl AutoWait {
         ensures state { event.new ≡ cancelled_auto self event.old }
         ensures others { OthersStay self event.old.queue event.new.queue }
         ensures sound { IsEvent event.new }
+        ensures visits { CancelVisits 6 self steps.old steps.new }
     {
         let AutoWait { wait } = self;
         if wait.cancel(&mut event.queue, steps) {

@@ -1,6 +1,7 @@
 //! The manual-reset event.
-ghost use Rattle.std.specs.Prelude.{◌≡◌, false};
-ghost use Rattle.band_event.specs.Event.{new_event, IsEvent, IsHere, PollsManual, LeavesOthers, set_for_all, cancelled, StayHere, TakesWake};
+ghost use Rattle.std.specs.Prelude.{◌≡◌, ◌*◌, length, false};
+ghost use Rattle.band_event.specs.Event.{new_event, IsEvent, IsHere, PollsManual, LeavesOthers, set_for_all, cancelled, StayHere, TakesWake, PollVisits, CancelVisits};
+ghost use Rattle.band_line.specs.Visits.{Visits};
 ghost use Rattle.band_signal.specs.Waits.{NotPolled, Finished};
 
 use crate::queue::Queue;
@@ -74,6 +75,7 @@ impl ManualResetEvent {
         ensures state { self.new ≡ set_for_all self.old }
         ensures stay { StayHere self.old.queue self.new.queue }
         ensures sound { IsEvent self.new }
+        ensures visits { Visits 0 (3 * length self.old.queue.line.linked) steps.old steps.new }
     {
         self.queue.touch();
         if !self.is_set {
@@ -132,6 +134,7 @@ impl ManualWait {
         ensures here { IsHere self.new event.new.queue }
         ensures others { LeavesOthers self.old event.old.queue event.new.queue }
         ensures sound { IsEvent event.new }
+        ensures visits { PollVisits self.old result steps.old steps.new }
     {
         if self.wait.is_not_polled() && event.is_set {
             event.queue.touch();
@@ -147,6 +150,7 @@ impl ManualWait {
         ensures state { event.new ≡ record event.old { queue = cancelled self event.old.queue } }
         ensures others { LeavesOthers self event.old.queue event.new.queue }
         ensures sound { IsEvent event.new }
+        ensures visits { CancelVisits 5 self steps.old steps.new }
     {
         let ManualWait { wait } = self;
         wait.cancel(&mut event.queue, steps);

@@ -1,7 +1,8 @@
 //! Who waits for an event, in line or called.
-ghost use Rattle.std.specs.Prelude.{◌≡◌, ◌+◌, length, [], false, Some, IsSome, IfOk, IsTrue};
+ghost use Rattle.std.specs.Prelude.{◌≡◌, ◌+◌, ◌*◌, ◌≤◌, length, [], false, Some, IsSome, IfOk, IsTrue, MatchBool, MatchResult, if◌then◌else◌};
 ghost use Rattle.band_line.specs.Arena.{KeepsOthers};
-ghost use Rattle.band_line.specs.WaitList.{waiter_at, first_waiter, IsUnlinked, IsWaitList};
+ghost use Rattle.band_line.specs.Visits.{Visits};
+ghost use Rattle.band_line.specs.WaitList.{waiter_at, is_linked, first_waiter, IsUnlinked, IsWaitList};
 ghost use Rattle.band_event.specs.Event.{IsQueue, new_queue, place_at, called, all_called, without, is_called, StayHere, TakesWake};
 ghost use Rattle.band_event.specs.Kept.Queue.{CallsFirst, JoinsQueue, PollsPlace};
 
@@ -60,6 +61,7 @@ impl Queue {
         ensures all { all_called self.new ≡ all_called self.old }
         ensures empty { result ≡ false → self.new.line.linked ≡ [] }
         ensures fewer { IsTrue result → length self.new.line.linked + 1 ≡ length self.old.line.linked }
+        ensures visits { MatchBool result (Visits 1 3 steps.old steps.new) (steps.new ≡ steps.old) }
     {
         let Some(first) = self.list.first() else {
             return false;
@@ -79,6 +81,7 @@ impl Queue {
         ensures calls { self.new ≡ all_called self.old }
         ensures stay { StayHere self.old self.new }
         ensures queued { IsQueue self.new }
+        ensures visits { Visits 0 (3 * length self.old.line.linked) steps.old steps.new }
     {
         while self.call_first(steps) {}
     }
@@ -93,6 +96,9 @@ impl Queue {
         ensures here { IfOk result (λ slot. IsSome (place_at slot self.new)) }
         ensures others { IfOk result (λ slot. KeepsOthers slot self.old.line.nodes self.new.line.nodes) }
         ensures queued { IsQueue self.new }
+        ensures visits { MatchResult result
+            (λ _. Visits 1 2 steps.old steps.new)
+            (λ _. steps.new ≡ steps.old) }
     {
         match self.waiting.checked_add(1) {
             Some(wanted) => self.wakes.reserve(wanted)?,
@@ -114,6 +120,7 @@ impl Queue {
         ensures polls { PollsPlace (place_at id self.old) id waker self.old result self.new }
         ensures others { KeepsOthers id self.old.line.nodes self.new.line.nodes }
         ensures queued { IsQueue self.new }
+        ensures visits { Visits 1 2 steps.old steps.new }
     {
         let was_called = self.list.waiter_mut(id, steps).leave(waker);
         if was_called {
@@ -129,6 +136,7 @@ impl Queue {
         ensures state { self.new ≡ without id self.old }
         ensures others { KeepsOthers id self.old.line.nodes self.new.line.nodes }
         ensures queued { IsQueue self.new }
+        ensures visits { Visits 2 (if result then 3 else 5) steps.old steps.new }
     {
         let place = call(&mut self.list, id, steps);
         self.list.remove_unlinked_waiter(id, steps);
@@ -156,6 +164,9 @@ fn call<L: Ledger>(list: &mut WaitList<Place>, id: WaiterId, steps: &mut Steps<L
     ensures was { waiter_at id list.old ≡ Some result }
     ensures state { IsUnlinked id Place.Called list.old list.new }
     ensures sound { IsWaitList list.old }
+    ensures visits { Visits 1 4 steps.old steps.new }
+    ensures first { first_waiter list.old ≡ Some id → steps.new ≤ steps.old + 3 }
+    ensures already { is_linked id list.old ≡ false → steps.new ≤ steps.old + 2 }
 {
     match list.unlink_waiter(id, |_| true, steps) {
         Some(place) => mem::replace(place, Place::Called),

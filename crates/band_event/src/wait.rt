@@ -1,7 +1,7 @@
 //! A wait's life.
-ghost use Rattle.std.specs.Prelude.{◌≡◌, ◌↔◌, IsTrue};
+ghost use Rattle.std.specs.Prelude.{◌≡◌, ◌↔◌, IsTrue, if◌then◌else◌};
 ghost use Rattle.band_signal.specs.Waits.{NotPolled, Finished};
-ghost use Rattle.band_event.specs.Event.{IsQueue, IsHere, PollsQueue, LeavesOthers, cancelled, was_called};
+ghost use Rattle.band_event.specs.Event.{IsQueue, IsHere, PollsQueue, LeavesOthers, cancelled, was_called, PollVisits, CancelVisits};
 
 use crate::queue::Queue;
 use band_base::{Poll, PollError, Steps, Waker};
@@ -61,6 +61,7 @@ impl EventWait {
         ensures here { IsHere self.new queue.new }
         ensures others { LeavesOthers self.old queue.old queue.new }
         ensures queued { IsQueue queue.new }
+        ensures visits { PollVisits self.old result steps.old steps.new }
     {
         if self.is_finished {
             queue.touch();
@@ -91,6 +92,7 @@ impl EventWait {
         ensures state { queue.new ≡ cancelled self queue.old }
         ensures others { LeavesOthers self queue.old queue.new }
         ensures queued { IsQueue queue.new }
+        ensures visits { CancelVisits (if result then 3 else 5) self steps.old steps.new }
     {
         let EventWait { id, is_finished } = self;
         match id {

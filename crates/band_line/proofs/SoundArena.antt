@@ -1,17 +1,17 @@
 -- What holds of every arena.
-use Rattle.std.proofs.Common.{◌≡◌, ◌≢◌, refl, ℕ, ◌+◌, ◌<◌, ◌≤◌, map, get_or, set, count_by, cond, not, List, [], ◌∷◌, length, arith, ap, sym, ◌∙◌, subst, Option, Some, None, IsSome, is_some, Bool, true, false}
+use Rattle.std.proofs.Common.{◌≡◌, ◌≢◌, refl, ℕ, ◌+◌, ◌<◌, ◌≤◌, map, get_or, set, count_by, cond, not, List, [], ◌∷◌, length, arith, ap, sym, ◌∙◌, subst, length-set, Option, Some, None, IsSome, is_some, Bool, true, false}
 use Rattle.std.specs.Prelude.{◌==◌, filter_map, unwrap_or}
 use Rattle.std.specs.List.{IsDistinct, AllByRecursion}
 use Rattle.std.specs.Option.{option_map}
 use Rattle.std.proofs.lemmas.Bool.Decides.{nat_tests}
 use Rattle.std.proofs.lemmas.List.{length-map, get_or-map, get_or-set_other, get_or_past}
 use Rattle.std.proofs.lemmas.List.Sums.{sum_by-set, sum_by-cons}
-use Rattle.band_line.specs.Arena.{ArenaState, IsSoundArena, empty_arena, arena_map, value_at}
+use Rattle.band_line.specs.Arena.{ArenaState, IsSoundArena, empty_arena, with_room, with_value, arena_map, value_at, slot_limit}
 use Rattle.band_line.specs.Line.{AreApart}
 use Rattle.band_line.specs.Slots.{IsChain, value_of, next_at, vacated_of, state_of, IsArena}
 use Rattle.band_line.specs.declared.arena.Slot.{Slot}
-use Rattle.band_line.proofs.ArenaLemmas.{occupied_within, vacant_within, vacant_at}
-use Rattle.band_line.proofs.ArenaMaps.{value_at-arena_map, occupied_len-arena_map}
+use Rattle.band_line.proofs.ArenaLemmas.{occupied_within, vacant_within, vacant_at, differs}
+use Rattle.band_line.proofs.ArenaMaps.{value_at-arena_map, value_at-with_value, value_at-with_value_other, occupied_len-arena_map, occupied_len-with_value}
 use Rattle.band_line.proofs.Chains.{first_is_off}
 use Rattle.band_line.proofs.Linking.{is_in, IsOff-is_in, AreApart-IsDistinct}
 
@@ -114,9 +114,33 @@ sound_mapped {A} {B} f arena sound =
     had_none None h = refl
     had_none (Some value) h = absurd (cc)
 
-pub sound_empty : {T : Type 0} → IsSoundArena (empty_arena {T = T})
+-- another value in a slot that has one
+pub sound_with_value : {T : Type 0} (arena : ArenaState T) (id : ℕ) (value : T) → IsSome (value_at id arena) → IsSoundArena arena → IsSoundArena (with_value id value arena)
+sound_with_value {T} arena id value there sound =
+    let many = length-set arena.slots id (Some value) in
+    let counted = occupied_len-with_value arena id value there in
+    let new = with_value id value arena in
+    let found : IsSome (value_at id new) = ap is_some (value_at-with_value arena id value there) in
+    let other_slot : (other : ℕ) → other ≢ id → value_at other new ≡ value_at other arena = λ other apart. value_at-with_value_other arena id other value apart in
+    record {
+      here = λ other here. let filled = here in grind (arith, get_or_past);
+      within = λ other among. omega (arith, many, sound.within other among);
+      vacant = λ other among.
+          let none = sound.vacant other among in
+          other_slot other (λ same. differs arena.slots other id none there (sym same)) ∙ none;
+      only = λ other within none.
+          let apart : other ≢ id = λ same. differs new.slots other id none found (sym same) in
+          sound.only other (omega (arith, many, within)) (sym (other_slot other apart) ∙ none);
+      once = sound.once;
+      all = omega (arith, many, counted, sound.all);
+      room = omega (arith, many, counted, sound.room);
+      numbered = omega (arith, counted, sound.numbered);
+    }
+
+-- an arena without slots, and with room that there may be
+pub sound_room : {T : Type 0} (spare : ℕ) → spare ≤ slot_limit → IsSoundArena (with_room spare (empty_arena {T = T}))
 unfolding IsDistinct
-sound_empty = record {
+sound_room spare fits = record {
   here = λ id here. absurd (cc);
   within = λ id among. absurd (cc);
   vacant = λ id among. refl;
@@ -124,5 +148,8 @@ sound_empty = record {
   once = tt;
   all = omega arith;
   room = omega arith;
-  numbered = omega arith;
+  numbered = omega (arith, fits);
 }
+
+pub sound_empty : {T : Type 0} → IsSoundArena (empty_arena {T = T})
+sound_empty = sound_room 0 (omega arith)

@@ -1,8 +1,8 @@
 -- How the nodes of a line are linked. No public clause cites this page.
-use Rattle.std.specs.Prelude.{◌≡◌, ◌≢◌, ℕ, ◌+◌, List, [], ◌∷◌, length, count_by, Bool, ◌==◌, if◌then◌else◌, Option, Some, None, is_some}
+use Rattle.std.specs.Prelude.{◌≡◌, ◌≢◌, ℕ, ◌+◌, ◌<◌, List, [], ◌∷◌, length, count_by, Bool, ◌==◌, if◌then◌else◌, Option, Some, None, is_some}
 use Rattle.std.specs.List.{list_any, AllByRecursion}
 use Rattle.std.specs.Option.{option_map, option_map_or, option_and_then}
-use Rattle.band_line.specs.Arena.{ArenaState, arena_map, value_at, with_value}
+use Rattle.band_line.specs.Arena.{ArenaState, arena_map, occupied_len, value_at, with_value}
 use Rattle.band_line.specs.Slots.{chain}
 use Rattle.std.specs.Global.{Global}
 use Rattle.std.specs.declared.boxed.Box.{Box}
@@ -72,6 +72,16 @@ module _ {T : Type 0} where
   abbrev pub list_in : Option (Box (WaitListState T) Global) → WaitListState T
   list_in None = empty_list
   list_in (Some line) = line.value
+
+  -- a line was made for the sake of room, so a list that has neither nodes nor room has no line in memory
+  abbrev pub IsMade : Option (Box (WaitListState T) Global) → Type 0
+  IsMade None = Unit {0}
+  IsMade (Some line) = 0 < occupied_len line.value.nodes + line.value.nodes.spare
+
+  -- as many nodes, and as much room
+  pub record HasAsManyNodes (old new : WaitListState T) : Type 0 where
+    pub len : occupied_len new.nodes ≡ occupied_len old.nodes
+    pub spare : new.nodes.spare ≡ old.nodes.spare
 
   pub record IsWaitLine (nodes : ArenaState (Node T)) (front back : Option ℕ) : Type 0 where
     pub line : IsDoublyLinked (links_at nodes) (linked_of nodes front) front back

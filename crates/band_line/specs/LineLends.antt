@@ -3,6 +3,7 @@ use Rattle.std.specs.Prelude.{ℕ, Bool, Option, OnSome, IfNone}
 use Rattle.std.specs.Borrow.{Lends, LendsSo, Fml, RattleType, MutBor}
 use Rattle.std.specs.Fn.{Once}
 use Rattle.band_line.specs.WaitList.{WaitListState, with_waiter, IsUnlinked, KeepsWaiter}
+use Rattle.band_line.specs.Line.{HasAsManyNodes}
 use Rattle.band_line.specs.contracts.line.Line.{the_row as line_row}
 
 module _ (T : RattleType) where
@@ -14,5 +15,5 @@ module _ (T : RattleType) {F : Type 0}
   abbrev pub lends_unlinked : MutBor (WaitListState T.Denot) → ℕ → Option (MutBor T.Denot) → Fml
   lends_unlinked list id value =
       LendsSo (line_row T) T list value
-      (λ new last. OnSome value (IsUnlinked id last list.now new))
-      (λ new. IfNone value (KeepsWaiter g f id list.now new))
+      (λ new last. OnSome value (IsUnlinked id last list.now new) × HasAsManyNodes list.now new)
+      (λ new. IfNone value (KeepsWaiter g f id list.now new) × HasAsManyNodes list.now new)

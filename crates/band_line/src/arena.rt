@@ -68,7 +68,8 @@ impl<T> Arena<T> {
 
     /// An arena without slots, which takes no memory before the first `reserve`.
     pub fn new(alloc: Global) -> Arena<T>
-        ensures { result ≡ empty_arena }
+        ensures empty { result ≡ empty_arena }
+        ensures sound { IsSoundArena result }
     {
         Arena {
             slots: Vec::new(alloc),
@@ -83,6 +84,7 @@ impl<T> Arena<T> {
         ensures room { IfOk result (λ arena. arena.spare ≡ n) }
         ensures none { n ≡ 0 → IsOk result }
         ensures limit { slot_limit < n → IsErr result }
+        ensures sound { IfOk result IsSoundArena }
     {
         if n > SlotId::LIMIT {
             return Err(AllocError);
@@ -256,6 +258,7 @@ impl<T> Arena<T> {
     pub fn take_all(&mut self) -> ArenaIter<T>
         ensures values { result ≡ values self.old }
         ensures state { self.new ≡ empty_arena }
+        ensures sound { IsSoundArena self.new }
     {
         let alloc = *self.slots.allocator();
         let arena = mem::replace(self, Arena::new(alloc));

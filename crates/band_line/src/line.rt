@@ -151,6 +151,7 @@ impl<T> Line<T> {
         ensures sound { IsWaitList self.new }
         ensures nodes { IsSoundArena self.new.nodes }
         ensures visits { Visits 1 2 steps.old steps.new }
+        ensures counted { steps.new ≡ steps.old + (if is_some (first_waiter self.old) then 2 else 1) }
     {
         let next = self.front;
         let links = Links::between(Link::none(), next);
@@ -174,6 +175,7 @@ impl<T> Line<T> {
         ensures sound { IsWaitList self.new }
         ensures nodes { IsSoundArena self.new.nodes }
         ensures visits { Visits 1 2 steps.old steps.new }
+        ensures counted { steps.new ≡ steps.old + (if is_some (first_waiter self.old) then 2 else 1) }
     {
         let prev = self.back;
         let links = Links::between(prev, Link::none());

@@ -27,6 +27,9 @@ const _: () = prove!(size_of::<Slot<Node<u64>>>() == 24);
 
 const _: () = prove!(size_of::<Slot<Node<(u64, u64, Option<Waker>)>>>() == 48);
 
+/// A value that is aligned to 16 has 32 bytes beside it: 8 for the links and 4 for the slot, each rounded up.
+const _: () = prove!(size_of::<Slot<Node<u128>>>() == 48);
+
 impl<T> Node<T> {
     ghost use Rattle.band_line.specs.NodeLends.{lends_node_value};
 

@@ -300,6 +300,29 @@ fn sets_wake_by_slots<L: Ledger, R: Abort>(
     Ok(())
 }
 
+/// Who gets a slot that was vacated is woken by that slot, before those who were registered earlier.
+fn order_is_of_slots<L: Ledger, R: Abort>(
+    rt: &R,
+    alloc: Global,
+    steps: &mut Steps<L>,
+) -> Result<(), Fail> {
+    let mut out = WakeLine::new(alloc);
+    out.reserve(3)?;
+    let mut set = WakerSet::with_capacity(alloc, 6)?;
+    let (mut first, mut second, mut third, mut fourth) = (None, None, None, None);
+    assert!(rt; set.register(&mut first, Waker(1), steps)? == None);
+    assert!(rt; set.register(&mut second, Waker(2), steps)? == None);
+    assert!(rt; set.register(&mut third, Waker(3), steps)? == None);
+    assert!(rt; set.unregister(&mut first, steps) == Some(Waker(1)));
+    assert!(rt; set.register(&mut fourth, Waker(4), steps)? == None);
+    set.take_all(&mut out);
+    for number in [4, 2, 3] {
+        assert!(rt; out.take_wake() == Some(Waker(number)));
+    }
+    assert!(rt; out.take_wake() == None);
+    Ok(())
+}
+
 /// The next of a row of numbers that look drawn, below `n`.
 fn draws(row: &mut u64, n: usize) -> usize
     requires { 0 < n }
@@ -541,6 +564,7 @@ fn sets_wake<L: Ledger, R: Abort>(rt: &R, alloc: Global, blank: Blank) -> Result
 {
     let mut steps: Steps<L> = Steps::new(blank);
     sets_wake_by_slots(rt, alloc, &mut steps)?;
+    order_is_of_slots(rt, alloc, &mut steps)?;
     Ok(())
 }
 

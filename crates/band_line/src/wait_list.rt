@@ -35,7 +35,7 @@ impl Model for WaiterId {
 /// Waiters in a line. One that is unlinked is detached: it stays readable until it is removed. Ports
 /// `WaitList`.
 ///
-/// It takes 16 bytes, and no memory before the first `reserve`.
+/// It takes 16 bytes, and no memory before the first `reserve` that asks for room.
 #[derive(Drop)]
 pub struct WaitList<T> {
     line: Option<Box<Line<T>>>,
@@ -47,9 +47,11 @@ impl<T> Model for WaitList<T> {
 
     ghost Value = { WaitListState T };
 
-    ghost use Rattle.band_line.specs.Line.{list_in};
+    ghost use Rattle.band_line.specs.Line.{list_in, IsMade};
 
     ghost view = { λ list. list_in list.line };
+
+    ghost invariant = { λ list. IsMade list.line };
 }
 
 const _: () = prove!(size_of::<WaitList<u64>>() == 16);
@@ -59,7 +61,9 @@ impl<T> WaitList<T> {
 
     /// Nobody waits, and there is no room.
     pub fn new(alloc: Global) -> WaitList<T>
-        ensures { result ≡ empty_list }
+        ensures empty { result ≡ empty_list }
+        ensures sound { IsWaitList result }
+        ensures nodes { IsSoundArena result.nodes }
     {
         WaitList { line: None, alloc }
     }
@@ -168,6 +172,7 @@ impl<T> WaitList<T> {
         ensures sound { IsWaitList self.new }
         ensures nodes { IsSoundArena self.new.nodes }
         ensures visits { Visits 1 2 steps.old steps.new }
+        ensures counted { steps.new ≡ steps.old + (if is_some (first_waiter self.old) then 2 else 1) }
     {
         WaiterId {
             slot: made(&mut self.line).push_front(value, steps),
@@ -188,6 +193,7 @@ impl<T> WaitList<T> {
         ensures sound { IsWaitList self.new }
         ensures nodes { IsSoundArena self.new.nodes }
         ensures visits { Visits 1 2 steps.old steps.new }
+        ensures counted { steps.new ≡ steps.old + (if is_some (first_waiter self.old) then 2 else 1) }
     {
         WaiterId {
             slot: made(&mut self.line).push_back(value, steps),

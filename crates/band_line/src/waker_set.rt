@@ -35,17 +35,20 @@ pub struct WakerSet {
 
 impl Model for WakerSet {
     ghost use Rattle.band_base.specs.declared.waker.Waker.{Waker};
-    ghost use Rattle.band_line.specs.Arena.{ArenaState};
+    ghost use Rattle.band_line.specs.Arena.{ArenaState, IsSoundArena};
 
     ghost Value = { ArenaState Waker };
 
     ghost view = { λ set. set.wakers };
+
+    ghost invariant = { λ set. IsSoundArena set.wakers };
 }
 
 impl WakerSet {
     /// No waker, and no room.
     pub fn new(alloc: Global) -> WakerSet
-        ensures { result ≡ empty_arena }
+        ensures empty { result ≡ empty_arena }
+        ensures sound { IsSoundArena result }
     {
         WakerSet {
             wakers: Arena::new(alloc),
@@ -58,6 +61,7 @@ impl WakerSet {
         ensures room { IfOk result (λ set. set.spare ≡ n) }
         ensures none { n ≡ 0 → IsOk result }
         ensures limit { slot_limit < n → IsErr result }
+        ensures sound { IfOk result IsSoundArena }
     {
         Ok(WakerSet {
             wakers: Arena::with_capacity(alloc, n)?,
@@ -96,6 +100,7 @@ impl WakerSet {
         ensures most { OnOk result (IsNone token.old → self.old.spare ≡ 0 →
             occupied_len self.new + self.new.spare
             ≤ max (occupied_len self.old + 1) (2 * occupied_len self.old)) }
+        ensures sound { IsSoundArena self.new }
         ensures visits { steps.new ≡ steps.old + (if is_ok result then 1 else 0) }
     {
         match token {
@@ -123,6 +128,7 @@ impl WakerSet {
         ensures vacant { ForSome token.old (λ id. value_at id self.new ≡ None) }
         ensures others { ForSome token.old (λ id. KeepsOthers id self.old self.new) }
         ensures len { occupied_len self.new + (if is_some token.old then 1 else 0) ≡ occupied_len self.old }
+        ensures sound { IsSoundArena self.new }
         ensures visits { steps.new ≡ steps.old + (if is_some token.old then 1 else 0) }
     {
         match token.take() {
@@ -136,6 +142,7 @@ impl WakerSet {
         requires { occupied_len self.old ≤ out.old.spare }
         ensures woken { out.new ≡ pushed_all (values self.old) out.old }
         ensures state { self.new ≡ empty_arena }
+        ensures sound { IsSoundArena self.new }
     {
         wake_each(self.wakers.take_all(), out);
     }

@@ -4,3 +4,4 @@ pub mod Follows
 pub mod Fronts
 pub mod Steps
 pub mod Order
+pub mod Ending

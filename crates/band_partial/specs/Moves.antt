@@ -1,8 +1,8 @@
 -- What each call makes of a partial line.
-use Rattle.std.specs.Prelude.{◌≡◌, ℕ, ◌+◌, ◌-◌, ◌<◌, Bool, not, ◌&&◌, nat_lt, nat_le, if◌then◌else◌, List, [], ◌∷◌, ◌++◌, map, length, take, drop, find, Option, Some, None}
+use Rattle.std.specs.Prelude.{◌≡◌, ℕ, ◌+◌, ◌-◌, ◌<◌, Bool, not, ◌&&◌, nat_lt, nat_le, ◌==◌, if◌then◌else◌, List, [], ◌∷◌, ◌++◌, map, length, take, drop, find, Option, Some, None}
 use Rattle.std.specs.Option.{option_map_or}
 use Rattle.band_balance.specs.Line.{Entry, entry_of, entry_named, without}
-use Rattle.band_partial.specs.PartialLine.{Node, PartialLine, request, debt, is_debt, share_of, debts, requests_of}
+use Rattle.band_partial.specs.PartialLine.{Node, PartialLine, request, debt, is_debt, share_of, shares, owed, debts, requests_of}
 
 -- nobody is in the line, and so much is available
 abbrev pub open_part : ℕ → PartialLine
@@ -111,6 +111,20 @@ end_request None is part =
 
 abbrev pub cancel_request : (ℕ → Bool) → PartialLine → PartialLine
 cancel_request is part = end_request (entry_named is part.granted) is part
+
+-- a debt of n, where anything is owed
+abbrev pub rest_of_debts : ℕ → ℕ → List Node
+rest_of_debts slot n = if n == 0 then [] else debt slot n n ∷ []
+
+-- All requests are ended: they leave the row, and their wakers are to be woken. Their share pays what is owed, and what is owed still is
+-- one debt.
+abbrev pub end_requests : ℕ → PartialLine → PartialLine
+end_requests slot part = record {
+  word = (part.word + shares part.nodes) - owed part.nodes;
+  nodes = rest_of_debts slot (owed part.nodes - (part.word + shares part.nodes));
+  granted = part.granted;
+  wakes = part.wakes ++ map (λ w. w.waker) (requests_of part.nodes);
+}
 
 -- what a distribution looks at: the nodes that it serves, which stand in front, and at most one more
 pub record ServesAFront (nodes : List Node) (done : Distribution) : Type 0 where

@@ -2,7 +2,7 @@
 use Rattle.std.specs.Prelude.{◌≡◌, ℕ, ◌-◌, ◌^◌, ◌==◌, List, [], ◌∷◌, pos, neg_ℤ}
 use Rattle.band_balance.specs.Line.{Entry, available}
 use Rattle.band_partial.specs.PartialLine.{Node, PartialLine, request, debt, line_of}
-use Rattle.band_partial.specs.Moves.{open_part, pass_on, draw, enqueue, owe, leave_new_waker, collect, cancel_request}
+use Rattle.band_partial.specs.Moves.{open_part, pass_on, draw, enqueue, owe, leave_new_waker, collect, cancel_request, end_requests}
 
 -- nothing is available, and nobody was granted
 abbrev pub row : List Node → PartialLine
@@ -65,3 +65,9 @@ pub record WorkedRows : Type 0 where
   -- what nobody needs is available
   pub rest_is_available : pass_on 5 (row (request 0 3 1 7 ∷ []))
       ≡ record { word = 4; nodes = []; granted = entry 0 3 ∷ []; wakes = 7 ∷ [] }
+  -- where all are ended, a share pays what is owed, and the rest is available
+  pub ended : end_requests 9 owing_one ≡ record { word = 2; nodes = []; granted = []; wakes = 10 ∷ 11 ∷ [] }
+  -- what is owed still is one debt
+  pub one_debt_left : end_requests 9 (row (debt 1 5 5 ∷ debt 2 4 3 ∷ request 0 4 2 9 ∷ []))
+      ≡ record { word = 0; nodes = debt 9 6 6 ∷ []; granted = []; wakes = 9 ∷ [] }
+  pub nobody_ended : end_requests 9 (open_part 5) ≡ open_part 5

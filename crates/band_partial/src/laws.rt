@@ -1,9 +1,9 @@
 //! What each move of a partial line stands for: a rule of the line that the partial line stands for.
-ghost use Rattle.std.specs.Prelude.{◌≡◌, ℕ, ◌+◌, ◌<◌, ◌≤◌, Bool, false, nat_le, min, List, ◌∷◌, length};
-ghost use Rattle.band_balance.specs.Line.{Line, AreAlike, open_line, is_served, available, drained, take_permits, give_back, join, poll_granted, poll_waiting, cancel};
+ghost use Rattle.std.specs.Prelude.{◌≡◌, ℕ, ◌+◌, ◌<◌, ◌≤◌, Bool, false, nat_le, min, List, ◌∷◌, [], length};
+ghost use Rattle.band_balance.specs.Line.{Line, AreAlike, open_line, is_served, available, drained, take_permits, give_back, join, poll_granted, poll_waiting, cancel, end_waiting};
 ghost use Rattle.band_balance.specs.Settled.{HeadWaits};
-ghost use Rattle.band_partial.specs.PartialLine.{Node, PartialLine, AreAlikeParts, AreInOrder, IsSettled, StandsFor, line_of};
-ghost use Rattle.band_partial.specs.Moves.{open_part, distribute, give_out, pass_on, first_served, first_given, draw, enqueue, owe, leave_new_waker, collect, cancel_request, ServesAFront, cleared};
+ghost use Rattle.band_partial.specs.PartialLine.{Node, PartialLine, AreAlikeParts, AreInOrder, IsSettled, StandsFor, debts, line_of, requests_of};
+ghost use Rattle.band_partial.specs.Moves.{open_part, distribute, give_out, pass_on, first_served, first_given, draw, enqueue, owe, leave_new_waker, collect, cancel_request, end_requests, ServesAFront, cleared};
 ghost use Rattle.band_partial.specs.Rows.{WorkedRows};
 
 /// At the start all permits are available.
@@ -78,6 +78,15 @@ pub fn collect_is_polling_granted()
 pub fn cancel_is_cancelling()
     ensures { (line : Line ℕ) → (part : PartialLine) → StandsFor line part
         → (is : ℕ → Bool) → StandsFor (cancel is line) (cancel_request is part) }
+{}
+
+/// An end of all that wait, whose shares go to debts first. No debt is made by it.
+pub fn end_requests_is_ending()
+    ensures ends { (line : Line ℕ) → (part : PartialLine) → StandsFor line part
+        → (slot : ℕ) → StandsFor (end_waiting line) (end_requests slot part) }
+    ensures nobody { (part : PartialLine) → (slot : ℕ) → requests_of (end_requests slot part).nodes ≡ [] }
+    ensures debts { (part : PartialLine) → (slot : ℕ)
+        → debts (end_requests slot part).nodes ≤ debts part.nodes }
 {}
 
 /// A distribution serves a front, debts before requests, and looks at one node more at most. How many it serves

@@ -1,7 +1,7 @@
 //! A participant, and its wait.
-ghost use Rattle.std.specs.Prelude.{◌≡◌, ◌==◌, ◌<◌, ◌≤◌, Some, None, OnOk, OnErr};
+ghost use Rattle.std.specs.Prelude.{◌≡◌, ◌==◌, ◌<◌, ◌≤◌, ◌+◌, Some, None, OnOk, OnErr};
 ghost use Rattle.band_phaser.specs.Phaser.{new_participant, IsCounted, answer_of, arrived, withdrawn, is_over, IsPendingFor, PollsParticipant, PollsPending, ArrivesFirst};
-ghost use Rattle.band_signal.specs.Waits.{NotPolled, IsOwn, LeavesOthers, cancelled};
+ghost use Rattle.band_signal.specs.Waits.{NotPolled, IsOwn, LeavesOthers, cancelled, visits_of, visits_out};
 
 use crate::{Closed, Phaser};
 use band_base::{Poll, PollError, Steps, Waker};
@@ -127,6 +127,7 @@ impl ParticipantWait {
         ensures pending { IsPendingFor self.new.life self.new.observed p.new.pending }
         ensures counted { IsCounted p.new.pending ph.new }
         ensures others { ph.new.phase ≡ ph.old.phase → LeavesOthers self.old.life ph.old.waits ph.new.waits }
+        ensures visits { steps.new ≡ steps.old + visits_of result }
     {
         if !self.registration.is_not_polled() {
             return self.poll_pending(self.observed, p, ph, waker, steps);
@@ -149,6 +150,7 @@ impl ParticipantWait {
         ensures polls { PollsPending observed self.old p.old waker ph.old result self.new p.new ph.new }
         ensures own { IsOwn (is_over observed ph.new) self.new.life ph.new.waits }
         ensures others { LeavesOthers self.old.life ph.old.waits ph.new.waits }
+        ensures visits { steps.new ≡ steps.old + visits_of result }
     {
         let answer = ph.poll_phase(observed, &mut self.registration, waker, steps)?;
         self.observed = observed;
@@ -174,6 +176,7 @@ impl ParticipantWait {
         ensures pending { IsPendingFor self.new.life self.new.observed p.new.pending }
         ensures others { ph.new.phase ≡ ph.old.phase → LeavesOthers self.old.life ph.old.waits ph.new.waits }
         ensures sound { ph.old.outstanding ≤ ph.old.registered }
+        ensures visits { steps.new ≡ steps.old + visits_of result }
     {
         let unarrived = ph.unarrived_parties();
         if ph.is_closed() {
@@ -198,6 +201,7 @@ impl ParticipantWait {
           waits = cancelled (is_over self.observed ph.old) self.life ph.old.waits;
         } }
         ensures others { LeavesOthers self.life ph.old.waits ph.new.waits }
+        ensures visits { steps.new ≡ steps.old + visits_out (is_over self.observed ph.old) self.life }
     {
         let ParticipantWait {
             observed,

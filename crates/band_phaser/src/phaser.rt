@@ -1,8 +1,8 @@
 //! The phaser.
-ghost use Rattle.std.specs.Prelude.{◌≡◌, ◌+◌, ◌-◌, ◌<◌, ◌≤◌, ◌↔◌, IsErrOf, IfOk, OnOk, OnErr, IsTrue, Some, true, false};
+ghost use Rattle.std.specs.Prelude.{◌≡◌, ◌+◌, ◌-◌, ◌<◌, ◌≤◌, ◌↔◌, IsErrOf, IfOk, OnOk, OnErr, IsTrue, Some, true, false, is_ok, if◌then◌else◌};
 ghost use Rattle.band_phaser.specs.Phaser.{new_phaser, new_participant, settled, arrived, withdrawn, with_parties, without_parties, closed_after, IsCounted, is_over, told, PollsPhase};
 ghost use Rattle.band_phaser.specs.Kept.{RegistersArrival};
-ghost use Rattle.band_signal.specs.Waits.{NotPolled, TakesWake, IsOwn, LeavesOthers, cancelled};
+ghost use Rattle.band_signal.specs.Waits.{NotPolled, TakesWake, IsOwn, LeavesOthers, cancelled, visits_of, visits_out};
 
 use crate::{Closed, PhaserError, PhaserParticipant, PhaserParticipants, PhaserWait};
 use band_base::{Poll, PollError, Steps, Waker};
@@ -246,6 +246,7 @@ impl Phaser {
         ensures polls { PollsPhase observed wait.old waker self.old result wait.new self.new }
         ensures own { IsOwn (is_over observed self.new) wait.new self.new.waits }
         ensures others { LeavesOthers wait.old self.old.waits self.new.waits }
+        ensures visits { steps.new ≡ steps.old + visits_of result }
     {
         let is_over = self.is_over(observed);
         match wait.poll(&mut self.waits, is_over, waker, steps) {
@@ -267,6 +268,7 @@ impl Phaser {
           waits = cancelled (is_over observed self.old) wait self.old.waits;
         } }
         ensures others { LeavesOthers wait self.old.waits self.new.waits }
+        ensures visits { steps.new ≡ steps.old + visits_out (is_over observed self.old) wait }
     {
         let is_over = self.is_over(observed);
         wait.cancel(&mut self.waits, is_over, steps);
@@ -285,6 +287,7 @@ impl Phaser {
         ensures arrives { RegistersArrival waker self.old result wait.new self.new }
         ensures own { IsOwn (is_over self.new.phase self.new) wait.new self.new.waits }
         ensures others { LeavesOthers wait.old self.old.waits self.new.waits }
+        ensures visits { steps.new ≡ steps.old + (if is_ok result then 1 else 0) }
     {
         wait.poll(&mut self.waits, false, waker, steps)?;
         self.outstanding -= 1;

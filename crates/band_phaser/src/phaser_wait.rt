@@ -1,7 +1,7 @@
 //! A wait for the end of a phase.
-ghost use Rattle.std.specs.Prelude.{◌≡◌};
+ghost use Rattle.std.specs.Prelude.{◌≡◌, ◌+◌};
 ghost use Rattle.band_phaser.specs.Phaser.{PollsPhase, is_over};
-ghost use Rattle.band_signal.specs.Waits.{NotPolled, IsOwn, LeavesOthers, cancelled};
+ghost use Rattle.band_signal.specs.Waits.{NotPolled, IsOwn, LeavesOthers, cancelled, visits_of, visits_out};
 
 use crate::{Closed, Phaser};
 use band_base::{Poll, PollError, Steps, Waker};
@@ -45,6 +45,7 @@ impl PhaserWait {
         ensures observed { self.new.observed ≡ self.old.observed }
         ensures own { IsOwn (is_over self.new.observed ph.new) self.new.life ph.new.waits }
         ensures others { LeavesOthers self.old.life ph.old.waits ph.new.waits }
+        ensures visits { steps.new ≡ steps.old + visits_of result }
     {
         ph.poll_phase(self.observed, &mut self.registration, waker, steps)
     }
@@ -56,6 +57,7 @@ impl PhaserWait {
           waits = cancelled (is_over self.observed ph.old) self.life ph.old.waits;
         } }
         ensures others { LeavesOthers self.life ph.old.waits ph.new.waits }
+        ensures visits { steps.new ≡ steps.old + visits_out (is_over self.observed ph.old) self.life }
     {
         let PhaserWait {
             observed,

@@ -215,18 +215,14 @@ answers_stop (faults.Malformed line) limit given source sink gives stops =
           ∙ stops.1.outcome rest (nat_lt limit (length (given ++ more))),
       subst P (sym (ap (λ g. transcript (calls_of (lines_of g))) through ∙ stops.1.transcript_is rest)) stops.2,
     ))
-answers_stop faults.TooLong limit given source sink gives stops = absurd stops
-answers_stop faults.Read limit given source sink gives stops = absurd stops
 answers_stop faults.Write limit given source sink gives stops = stops.1
 answers_stop faults.NoMemory limit given source sink gives stops = tt
+answers_stop fault limit given source sink gives stops = absurd stops
 
 -- a count that rose after it had not fallen
 rises_in : (fault : PlayFault) (bytes : List ℕ) (before after : Option (List ℕ)) (start old new : ℕ) → start ≤ old → Stops fault bytes before after old new → Stops fault bytes before after start new
-rises_in (faults.Malformed line) bytes before after start old new kept stops = stops
-rises_in faults.TooLong bytes before after start old new kept stops = stops
-rises_in faults.Read bytes before after start old new kept stops = stops
 rises_in faults.Write bytes before after start old new kept stops = (stops.0, rises start old new kept stops.1)
-rises_in faults.NoMemory bytes before after start old new kept stops = stops
+rises_in fault bytes before after start old new kept stops = stops
 
 pub answers_fault : (fault : PlayFault) (limit left : ℕ) (piece cut : List ℕ) (old : Playing) (source sink : End) (mid between : Option (List ℕ)) (now : ℕ)
     → SoFar limit left old source.before mid sink.before between → Consumes mid source.after piece → sink.faults ≤ now → cut ≡ take left piece
@@ -242,10 +238,9 @@ front_stop : (fault : PlayFault) (given : List ℕ) (before after : Option (List
 front_stop (faults.Malformed line) given before after old new stops =
     let P : List ℕ → Type 0 = λ text. AppendsPrefix text before after in
     subst P (sym (ap (λ g. transcript (calls_of (lines_of g))) (sym (append-nil given)) ∙ stops.1.transcript_is [])) (whole_front stops.0 before after stops.2)
-front_stop faults.TooLong given before after old new stops = absurd stops
-front_stop faults.Read given before after old new stops = absurd stops
 front_stop faults.Write given before after old new stops = stops.0
 front_stop faults.NoMemory given before after old new stops = stops
+front_stop fault given before after old new stops = absurd stops
 
 pub front_fault : (fault : PlayFault) (limit left : ℕ) (piece cut : List ℕ) (old : Playing) (first mid before between after : Option (List ℕ)) (counted now : ℕ)
     (q : SoFar limit left old first mid before between) → cut ≡ take left piece → StopsInPiece fault cut old between after counted now

@@ -6,3 +6,8 @@ pub mod LineRuns
 pub mod Pieces
 pub mod Telling
 pub mod Visits
+pub mod BulkLines
+pub mod BulkTexts
+pub mod Wakes
+pub mod Summing
+pub mod Spelling

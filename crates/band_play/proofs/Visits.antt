@@ -39,7 +39,4 @@ few_at_end start steps lines (byte ∷ held) few = omega (arith, few)
 pub few_by_fault : (fault : PlayFault) (start before after : ℕ) (playing : Playing) → before + 8 * load_of playing.player ≤ start + 16 * playing.lines → CountsFault fault playing before after
     → VisitsBy (Err fault) start after
 few_by_fault (faults.Malformed line) start before after playing few counts = omega (arith, few, counts)
-few_by_fault faults.TooLong start before after playing few counts = tt
-few_by_fault faults.Read start before after playing few counts = tt
-few_by_fault faults.Write start before after playing few counts = tt
-few_by_fault faults.NoMemory start before after playing few counts = tt
+few_by_fault fault start before after playing few counts = tt

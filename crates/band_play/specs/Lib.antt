@@ -1,3 +1,4 @@
+pub mod Bulk
 pub mod Faults
 pub mod Lines
 pub mod Play

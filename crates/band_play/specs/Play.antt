@@ -1,12 +1,14 @@
 -- What playing a script promises.
-use Rattle.std.specs.Prelude.{◌≡◌, ◌≢◌, ℕ, ◌+◌, ◌≤◌, ◌⊎◌, List, [], ◌∷◌, ◌++◌, length, codes, Option, Some}
+use Rattle.std.specs.Prelude.{◌≡◌, ◌≢◌, ℕ, ◌+◌, ◌≤◌, ◌⊎◌, List, [], ◌∷◌, ◌++◌, length, codes, decimal, Option, Some}
 use Rattle.std.specs.Prelude.{None, IsSome, Result, Ok, Err}
 use Rattle.std.specs.List.{AllByRecursion}
 use Rattle.std.specs.Io.KnownBytes.{Appends, IsAtEnd}
 use Rattle.band_base.specs.Device.{AppendsPrefix, Rose}
+use Rattle.band_play.specs.Bulk.{IsBulk, bulk_calls, summary_of}
 use Rattle.band_play.specs.Text.{fault_text, usage_text}
 use Rattle.band_play.specs.declared.fault.PlayFault.{PlayFault}
 use Rattle.band_play.specs.declared.fault.PlayFault.TheVariants as faults
+use Rattle.band_script.specs.declared.call.Call.{Call}
 use Rattle.band_script.specs.Grammar.{call_of}
 use Rattle.band_rules.specs.Script.{Verdict, Good, Malformed, TooLong, verdict, lines_of, calls_of}
 use Rattle.band_rules.specs.Script.{calls_within, transcript}
@@ -62,8 +64,9 @@ Answers (Err faults.TooLong) limit source sink =
     Comes TooLong limit source.before sink.before sink.after
     × Gave (λ given. length given ≡ limit + 1) source.before source.after
 Answers (Err faults.Read) limit source sink =
-    HasFailed source × Gave (λ given. PlaysGiven limit given sink.before sink.after) source.before source.after
-Answers (Err faults.Write) limit source sink = HasFailed sink
+    Rose source.faults source.faults_now
+    × Gave (λ given. PlaysGiven limit given sink.before sink.after) source.before source.after
+Answers (Err faults.Write) limit source sink = Rose sink.faults sink.faults_now
 Answers (Err faults.NoMemory) limit source sink = Unit {0}
 
 -- Of what was given, whatever the answer is: it is at most one byte more than the limit, and a prefix of the
@@ -121,10 +124,32 @@ abbrev pub EndsWith : Result ℕ PlayFault → ℕ → End → Type 0
 EndsWith (Ok lines) status sink = status ≡ 0
 EndsWith (Err fault) status sink = ToldWith (status_of fault) (fault_text fault ++ 10 ∷ []) status sink
 
--- the promise of the program: `play` is its one word, and it plays and ends with the answer of that; or it
--- tells how it is used
+-- what the words of the program ask for: to play, or the summary of a bulk script; or they are others
+abbrev pub AskToPlay : List (List ℕ) → Type 0
+AskToPlay words = words ≡ codes "play" ∷ []
+
+abbrev pub AskForBulk : ℕ → List (List ℕ) → Type 0
+AskForBulk n words = (words ≡ codes "bulk" ∷ decimal n ∷ []) × IsBulk n
+
+abbrev pub AreOthers : List (List ℕ) → Type 0
+AreOthers words = (words ≢ codes "play" ∷ []) × ((n : ℕ) → AskForBulk n words → ⊥)
+
+-- what an answer says of the summary of a script: all of it was written, and so many lines it has; or a prefix
+-- of it was, where the sink has failed or there was no memory
+abbrev pub SumsUp : List Call → Result ℕ PlayFault → End → Type 0
+SumsUp calls (Ok lines) sink =
+    (lines ≡ length calls) × Appends sink.before sink.after (summary_of calls)
+SumsUp calls (Err faults.Write) sink =
+    HasFailed sink × AppendsPrefix (summary_of calls) sink.before sink.after
+SumsUp calls (Err faults.NoMemory) sink = AppendsPrefix (summary_of calls) sink.before sink.after
+SumsUp calls (Err fault) sink = ⊥
+
+-- the promise of the program: it plays, or sums up a bulk script, and ends with the answer of that; or it tells how
+-- it is used
 abbrev pub Runs : List (List ℕ) → End → End → End → ℕ → Type 0
 Runs words source sink told status =
-    ((words ≡ codes "play" ∷ []) × ((answer : Result ℕ PlayFault) × Plays program_limit source sink answer
+    (AskToPlay words × ((answer : Result ℕ PlayFault) × Plays program_limit source sink answer
     × EndsWith answer status told))
-    ⊎ ((words ≢ codes "play" ∷ []) × ToldWith 2 (usage_text ++ 10 ∷ []) status told)
+    ⊎ (((n : ℕ) × AskForBulk n words × ((answer : Result ℕ PlayFault) × SumsUp (bulk_calls n) answer sink
+    × EndsWith answer status told))
+    ⊎ (AreOthers words × ToldWith 2 (usage_text ++ 10 ∷ []) status told))

@@ -1,7 +1,8 @@
 -- How many nodes of lines the playing of a script visits.
-use Rattle.std.specs.Prelude.{◌≡◌, ◌≢◌, ◌↔◌, ◌⊎◌, ℕ, ◌+◌, ◌*◌, ◌≤◌, List, [], ◌∷◌, codes, length, take, Option, Some, None}
+use Rattle.std.specs.Prelude.{◌≡◌, ◌↔◌, ◌⊎◌, ℕ, ◌+◌, ◌*◌, ◌≤◌, List, length, take, Option, Some, None}
 use Rattle.std.specs.Prelude.{Result, Ok, Err, IsOk}
-use Rattle.band_play.specs.Play.{Gave, program_limit}
+use Rattle.band_play.specs.Bulk.{bulk_calls}
+use Rattle.band_play.specs.Play.{Gave, AskToPlay, AskForBulk, AreOthers, program_limit}
 use Rattle.band_play.specs.declared.fault.PlayFault.{PlayFault}
 use Rattle.band_play.specs.declared.fault.PlayFault.TheVariants as faults
 use Rattle.band_play.specs.declared.playing.Playing.{Playing}
@@ -18,20 +19,25 @@ VisitsBy (Ok lines) before after = after ≤ before + 16 * lines
 VisitsBy (Err (faults.Malformed line)) before after = after + 16 ≤ before + 16 * line
 VisitsBy (Err fault) before after = Unit {0}
 
+-- sixteen visits at most for each of so many lines
+abbrev pub AddsFew : ℕ → ℕ → ℕ → Type 0
+AddsFew lines before after = (before ≤ after) × (after ≤ before + 16 * lines)
+
 -- What `play` visits. Whatever the answer is, it is at most sixteen for each line that ends, within the limit, in what
 -- the source gave.
 pub record VisitsFew (limit : ℕ) (first last : Option (List ℕ)) (answer : Result ℕ PlayFault)
     (before after : ℕ) : Type 0 where
   pub no_fewer : before ≤ after
   pub answered : VisitsBy answer before after
-  pub taken : Gave (λ given. after ≤ before + 16 * count_lines (take limit given)) first last
+  pub taken : Gave (λ given. after ≤ before + 16 * length (lines_of (take limit given))) first last
 
--- The program visits what `play` does, and nothing with other words.
+-- The program visits what `play` does, at most sixteen for each line of a bulk script, and nothing with other words.
 abbrev pub RunVisits : List (List ℕ) → Option (List ℕ) → Option (List ℕ) → ℕ → ℕ → ℕ → Type 0
 RunVisits words first last status before after =
-    ((words ≡ codes "play" ∷ []) × ((answer : Result ℕ PlayFault)
+    (AskToPlay words × ((answer : Result ℕ PlayFault)
     × VisitsFew program_limit first last answer before after × ((status ≡ 0) ↔ IsOk answer)))
-    ⊎ ((words ≢ codes "play" ∷ []) × (after ≡ before))
+    ⊎ (((n : ℕ) × AskForBulk n words × AddsFew (length (bulk_calls n)) before after)
+    ⊎ (AreOthers words × (after ≡ before)))
 
 -- so many lines were run, each of which paid sixteen
 pub record PaysLines (lines : ℕ) (old new : Playing) (before after : ℕ) : Type 0 where

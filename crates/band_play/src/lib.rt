@@ -1,6 +1,7 @@
 //! Scripts over bytes: the telling of their calls, and the program. The player, the language and the rules stand below it.
 #![tactic(auto)]
 
+mod bulk;
 mod fault;
 mod held;
 mod lines;
@@ -8,6 +9,8 @@ mod playing;
 mod print;
 mod program;
 mod script;
+mod summary;
+mod words;
 
 pub use band_player::Player;
 pub use band_rules::{
@@ -16,6 +19,7 @@ pub use band_rules::{
     refusals_change_nothing, wakes_name_the_granted, writes_exclude,
 };
 pub use band_script::{Call, Name, decodes_exactly, longest_line, one_call, parse_line};
+pub use bulk::bulk_script;
 pub use fault::PlayFault;
 pub use program::run;
 pub use script::play;

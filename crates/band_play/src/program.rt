@@ -1,17 +1,17 @@
 //! The program over its words, a source and two sinks.
-ghost use Rattle.std.specs.Prelude.{◌≡◌, ◌≢◌, ◌↔◌, ◌≤◌, [], ◌∷◌, ◌++◌, codes, map, string_bytes, IsTrue};
-ghost use Rattle.band_play.specs.Play.{Runs, ToldWith, IsStatus, end_of, status_of};
+ghost use Rattle.std.specs.Prelude.{◌≡◌, ◌↔◌, ◌≤◌, [], ◌∷◌, ◌++◌, map, string_bytes, IsOk};
+ghost use Rattle.band_play.specs.Play.{AskToPlay, AreOthers, Runs, EndsWith, ToldWith, IsStatus, end_of, status_of};
 ghost use Rattle.band_play.specs.Text.{fault_text};
 ghost use Rattle.band_play.specs.Visits.{RunVisits};
 
 use crate::print::push_fault;
+use crate::script::LIMIT;
+use crate::summary::sum_up;
+use crate::words::{asks_to_play, bulk_of};
 use crate::{PlayFault, play};
 use band_base::{Sink, SinkError, Source, Steps, write_all};
 use std::alloc::{AllocError, Global};
 use std::sync::ledger::Ledger;
-
-/// The most bytes that a script may have.
-const LIMIT: u64 = 16_777_216;
 
 /// How the program is used.
 const USAGE: &str = "usage: band play | band bulk N\n";
@@ -31,18 +31,33 @@ pub fn run<S: Source, D: Sink, E: Sink, L: Ledger>(
     ensures status { IsStatus result }
     ensures runs { Runs (map string_bytes words.now) (end_of S.left S.faults src.old src.new)
         (end_of D.written D.faults dst.old dst.new) (end_of E.written E.faults err.old err.new) result }
-    // With other words the source and the sink stay as they were, and nothing is told where all is well.
-    ensures untouched { map string_bytes words.now ≢ codes "play" ∷ [] →
-        (src.new ≡ src.old) × (dst.new ≡ dst.old) }
+    // Only a script that is played is read, with words of no form nothing is written to the sink, and nothing is told where
+    // all is well.
+    ensures unread { (AskToPlay (map string_bytes words.now) → ⊥) → src.new ≡ src.old }
+    ensures untouched { AreOthers (map string_bytes words.now) → dst.new ≡ dst.old }
     ensures quiet { result ≡ 0 → err.new ≡ err.old }
     ensures visits { RunVisits (map string_bytes words.now) (S.left src.old) (S.left src.new) result
         steps.old steps.new }
+    ensures writes_never_fall { D.faults dst.old ≤ D.faults dst.new }
     ensures tells_never_fall { E.faults err.old ≤ E.faults err.new }
 {
-    if !asks_to_play(words) {
-        return tell(err, USAGE.as_bytes(), 2);
+    if asks_to_play(words) {
+        return end(alloc, err, play(alloc, src, dst, LIMIT, steps));
     }
-    match play(alloc, src, dst, LIMIT, steps) {
+    match bulk_of(words) {
+        Some(n) => end(alloc, err, sum_up(alloc, n, dst, steps)),
+        None => tell(err, USAGE.as_bytes(), 2),
+    }
+}
+
+/// The status of an answer. Where it is a fault, tells why a script was not played to its end.
+fn end<E: Sink>(alloc: Global, err: &mut E, answer: Result<u64, PlayFault>) -> u8
+    ensures ends { EndsWith answer result (end_of E.written E.faults err.old err.new) }
+    ensures ok { (result ≡ 0) ↔ IsOk answer }
+    ensures quiet { result ≡ 0 → err.new ≡ err.old }
+    ensures never_fall { E.faults err.old ≤ E.faults err.new }
+{
+    match answer {
         Ok(_) => 0,
         Err(fault) => tell_fault(alloc, err, &fault),
     }
@@ -71,22 +86,6 @@ fn tell<E: Sink>(err: &mut E, text: &[u8], status: u8) -> u8
         Ok(()) | Err(SinkError::Failed) => status,
         Err(SinkError::NoMemory) => NO_MEMORY,
     }
-}
-
-/// Whether `play` is the one word.
-fn asks_to_play(words: &[String]) -> bool
-    ensures { IsTrue result ↔ (map string_bytes words.now ≡ codes "play" ∷ []) }
-{
-    match words {
-        [word] => is_play(word),
-        _ => false,
-    }
-}
-
-fn is_play(word: &String) -> bool
-    ensures { IsTrue result ↔ (string_bytes word.now ≡ codes "play") }
-{
-    word.as_str() == "play"
 }
 
 fn status_of(fault: &PlayFault) -> u8

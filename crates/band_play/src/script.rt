@@ -11,6 +11,9 @@ use band_base::{Sink, Source, SourceFailed, Steps};
 use std::alloc::Global;
 use std::sync::ledger::Ledger;
 
+/// The most bytes that a script of the program may have.
+pub(crate) const LIMIT: u64 = 16_777_216;
+
 /// The most bytes that one read asks for.
 const PIECE: usize = 4096;
 

@@ -1,8 +1,7 @@
 -- A rule to one object of a state that the table stands for: what the table has to come to for the state afterwards.
-use Rattle.std.proofs.Common.{◌≡◌, ℕ, ◌==◌, ◌<◌, zero, suc, List, [], ◌∷◌, length, Option, Some, None, refl, sym, ap, ◌∙◌, subst, arith, eqb-true, eq-eqb, ne_eqb}
+use Rattle.std.proofs.Common.{◌≡◌, ℕ, ◌<◌, zero, suc, List, [], ◌∷◌, length, Option, Some, None, refl, sym, ap, ◌∙◌, subst, arith, ne_eqb}
 use Rattle.std.specs.List.{slice_get, slice_set}
 use Rattle.std.specs.Str.{bytes_eq}
-use Rattle.std.proofs.lemmas.Bool.{false≢true}
 use Rattle.std.proofs.lemmas.List.{length-set}
 use Rattle.std.proofs.lemmas.Option.{none-some, same_Some, slice_get_within}
 use Rattle.band_balance.specs.Line.{Line, AreAlike, rename}
@@ -23,7 +22,7 @@ use Rattle.band_player.specs.Objects.{ObjectState}
 use Rattle.band_player.specs.Table.{unseen, shown, HasSlotAt, StandsAt, StandsUnder}
 use Rattle.band_player.specs.Thing.{Thing, place_at}
 use Rattle.band_player.specs.Thing as things
-use Rattle.band_player.proofs.Lists.{all_at_place, at_set_same, at_set_other}
+use Rattle.band_player.proofs.Lists.{all_at_place, at_set_same, at_set_other, each_replaced}
 use Rattle.band_player.proofs.Stood.{shown_elsewhere}
 
 -- the object of a name is the one at its place
@@ -68,10 +67,8 @@ module _ (place other : ℕ) (apart : other ≡ place → ⊥) where
   slot_there tags line name (here {before} {after} was is) has = go after is
     where
       go : (thing : Option Thing) → IsOf place thing → HasSlotAt tags other line name thing
-      go None is = tt
-      go (Some (things.Object at)) is = tt
       go (Some (things.Request at request)) is = λ k. absurd (apart (sym k ∙ is))
-      go (Some (things.Holding holding)) is = tt
+      go thing is = tt
 
 -- where one name changes
 pub touched_one : (place : ℕ) (table table' : List ℕ → Option Thing) (it : List ℕ) (now : Option Thing) → Updated table table' it now → IsOf place (table it) → IsOf place now
@@ -158,19 +155,12 @@ module _ (tags : ℕ → ℕ → Tag) (table : List ℕ → Option Thing) (kept 
         → slice_get (slice_set state place after) other ≡ Some another
         → StandsAt (retagged other) table' other kept_other another
     each_after other kept_other another kept_at at_other =
-        by_bool (place == other)
-        (λ h.
-        let k : place ≡ other = eqb-true place other h in
-        let is_object : object ≡ kept_other = same_Some object kept_other (sym (at_set_same kept place before object kept_there) ∙ ap (slice_get (slice_set kept place object)) k ∙ kept_at) in
-        let is_named : after ≡ another = same_Some after another (sym (at_set_same state place named after there) ∙ ap (slice_get (slice_set state place after)) k ∙ at_other) in
-        subst (λ (o : ObjectState). StandsAt (retagged other) table' other o another) is_object
-        (subst (λ (n : Named). StandsAt (retagged other) table' other object n) is_named
-        (subst (λ (p : ℕ). StandsAt (retagged p) table' p object after) k
-        (subst (λ (t : ℕ → Tag). StandsAt t table' place object after) (sym (named_at_itself place tags' tags)) at))))
-        (λ h.
-        let apart : other ≡ place → ⊥ = λ k. false≢true (sym h ∙ eq-eqb place other (sym k)) in
-        stays_at other apart kept_other another
-        (stands.each other kept_other another (sym (at_set_other kept place other object apart) ∙ kept_at) (sym (at_set_other state place other after apart) ∙ at_other)))
+        each_replaced (λ p o. (n : Named) → slice_get (slice_set state place after) p ≡ Some n → StandsAt (retagged p) table' p o n) kept place before object kept_there
+        (λ n is.
+        subst (StandsAt (retagged place) table' place object) (same_Some after n (sym (at_set_same state place named after there) ∙ is))
+        (subst (λ (t : ℕ → Tag). StandsAt t table' place object after) (sym (named_at_itself place tags' tags)) at))
+        (λ p o apart kept_is n is. stays_at p apart o n (stands.each p o n kept_is (sym (at_set_other state place p after apart) ∙ is)))
+        other kept_other kept_at another at_other
 
   pub acts : (call : Call) (rule : Rule (List ℕ)) (answer : Answer) → plan call state ≡ Act named rule → Lands named place rule answer tags' table' object
       → Does (step call state) answer object retagged table' (slice_set kept place object)

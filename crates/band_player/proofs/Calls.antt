@@ -1,6 +1,5 @@
 -- What each call comes to in a state that the table stands for, by what the names and the objects say.
-use Rattle.std.proofs.Common.{◌≡◌, ℕ, ◌+◌, ◌-◌, ◌<◌, ◌≤◌, ◌==◌, Bool, true, false, not, cond, List, [], map, length, Option, Some, None, IsSome, Result, Ok, Err, ℤ, pos, ◌+ℤ◌, int_lt, refl, sym, ap}
-use Rattle.std.proofs.Common.{ap₂, ◌∙◌, subst, eqb-true, eq-eqb}
+use Rattle.std.proofs.Common.{◌≡◌, ℕ, ◌+◌, ◌-◌, ◌<◌, ◌≤◌, ◌==◌, Bool, true, false, not, cond, List, [], map, length, Option, Some, None, IsSome, Result, Ok, Err, ℤ, pos, ◌+ℤ◌, int_lt, refl, sym, ap, ap₂, ◌∙◌, subst, eqb-true, eq-eqb}
 use Rattle.std.specs.List.{slice_get, slice_set}
 use Rattle.std.specs.Str.{bytes_eq}
 use Rattle.std.proofs.lemmas.Bool.{cond-true, cond-false, cond_both, true≢false, le-leb, lt-leb}
@@ -9,9 +8,8 @@ use Rattle.std.proofs.lemmas.Option.{same_Some}
 use Rattle.band_base.specs.declared.refusal.Refusal.{Refusal}
 use Rattle.band_base.specs.declared.refusal.Refusal.TheVariants as refusals
 use Rattle.band_balance.specs.Line.{Line, AreAlike, requests, total, rename, renamed_waiting, u64_max, is_served, take_permits, give_back, drained, overflows, owes_too_much, available}
-use Rattle.band_balance.specs.Object.{Object, Kind, Mode, Permit, Read, Write, Answer, Done, Ready, Pending, Nothing, Drained, Figures, Turn, size_of, tag, turn, hold, size_in}
-use Rattle.band_balance.specs.Rule.{Rule, Fits, act}
-use Rattle.band_balance.specs.Rule.{has_name as is_tag}
+use Rattle.band_balance.specs.Object.{Object, Kind, Mode, Permit, Read, Write, Answer, Done, Ready, Pending, Nothing, Drained, Figures, Turn, is_of, size_of, tag, turn, hold, size_in}
+use Rattle.band_balance.specs.Rule.{Rule, Fits, act, has_name as is_tag}
 use Rattle.band_balance.specs.Rule as rules
 use Rattle.band_balance.proofs.Alike.{with_granted, total-alike, take_permits-alike}
 use Rattle.band_balance.proofs.Held.{other_way}
@@ -19,9 +17,10 @@ use Rattle.band_balance.proofs.Rename.{is_served-rename, available-rename, drain
 use Rattle.band_balance.proofs.Requests.{requests-give_back}
 use Rattle.band_balance.proofs.Rules.{bytes_told}
 use Rattle.band_balance.proofs.Turns.{split_by, drop_of, write_of}
+use Rattle.band_rules.proofs.Planned.{if_live}
 use Rattle.band_rules.specs.declared.reply.Reply.{Reply}
 use Rattle.band_rules.specs.declared.reply.Reply.TheVariants as replies
-use Rattle.band_rules.specs.Plan.{Plan, Refuse, Act, ◌>>=◌, object_of, object_for, asked_object, owner, lender, refuse_if, naming, plan}
+use Rattle.band_rules.specs.Plan.{Plan, Refuse, Act, ◌>>=◌, object_for, asked_object, owner, lender, refuse_if, naming, plan}
 use Rattle.band_rules.specs.State.{State, Named, Tag, Standing, AnObject, standing}
 use Rattle.band_rules.specs.Step.{reply_of, step}
 use Rattle.band_script.specs.declared.call.Call.{Call}
@@ -29,9 +28,7 @@ use Rattle.band_script.specs.declared.call.Call.TheVariants as calls
 use Rattle.band_sem.specs.Request.{NotPolled, Joined}
 use Rattle.band_sem.specs.Semaphore.{taken, given_back, released, reduced, joined, received, forgotten, with_waker, without_request, cancelled, LaterPoll, Polls, PollsAt}
 use Rattle.band_player.specs.Kept.{wakes_left, StandsFor, FollowsFrom, DidWork}
-use Rattle.band_player.specs.Moves.{object_place, offering, held_as, mode_of, size_for, ask_call, try_call, AsksName, SplitsTo, Grows, Changes, FitsHolding, mergeable, mergeable_held, dropped}
-use Rattle.band_player.specs.Moves.{downgraded}
-use Rattle.band_player.specs.Moves.{PollsRequest, PollsToken, answer_of, left_of, mode_in, reply_for}
+use Rattle.band_player.specs.Moves.{object_place, offering, held_as, mode_of, size_for, ask_call, try_call, AsksName, SplitsTo, Grows, Changes, FitsHolding, mergeable, mergeable_held, dropped, downgraded, PollsRequest, PollsToken, answer_of, left_of, mode_in, reply_for}
 use Rattle.band_player.specs.Names.{thing_at, Updated, is_object}
 use Rattle.band_player.specs.Objects.{ObjectState, RequestState, HoldingState, IsLikeObject, IsSteady, of_kind, shares_of, on_semaphore, in_mode, asked_of, held_in}
 use Rattle.band_player.specs.Table.{HasSlot}
@@ -45,31 +42,20 @@ use Rattle.band_player.specs.declared.table.Table.{Table}
 use Rattle.band_player.proofs.Acting.{IsOf, Touched, same, touched_one, touched_twice, updated_same}
 use Rattle.band_player.proofs.Fitting.{fits_at}
 use Rattle.band_player.proofs.Follow.{Target, target, absent, standing_as, refused, shows, acted, works}
-use Rattle.band_player.proofs.Landing.{line_is, line_as, given_back_is, steady_before, lands_like, takes, joining, joins, stays, slot_of, receives, rewakes, ends, lets_go, held_there, splits, merges}
-use Rattle.band_player.proofs.Landing.{lowers}
+use Rattle.band_player.proofs.Landing.{line_is, line_as, given_back_is, steady_before, lands_like, takes, joining, joins, stays, slot_of, receives, rewakes, ends, lets_go, held_there, splits, merges, lowers}
 use Rattle.band_player.proofs.Lists.{set_itself}
-use Rattle.band_player.proofs.Lookups.{if_live, plain_found, object_refused, held_refused, FoundAs, place_held, refuses, held_found, apart_by_place, is_live, taken_name, held_by, Live, live}
-use Rattle.band_player.proofs.Lookups.{standing_live, object_there, unused}
+use Rattle.band_player.proofs.Lookups.{plain_found, object_refused, held_refused, FoundAs, place_held, refuses, held_found, apart_by_place, is_live, taken_name, held_by, Live, live, standing_live, object_there, unused}
 use Rattle.band_player.proofs.Named.{can_merge, two_names, held_from, object_from, object_is, same_holding}
 
-abbrev asking : Mode → (Kind → ℕ) → List ℕ → List ℕ → ℕ → State → Plan
-asking mode size made of waker state = naming mode size made of (λ n. rules.Ask (tag mode made) n waker) state
-
-abbrev trying : Mode → (Kind → ℕ) → List ℕ → List ℕ → State → Plan
-trying mode size made of state = naming mode size made of (rules.Try (tag mode made)) state
-
 -- what asks for something of an object, and what tries
-pub plan_asks : (want : Want) (made of : List ℕ) (waker : ℕ) (state : State) → plan (ask_call want made of waker) state ≡ asking (mode_of want) (size_for want) made of waker state
-plan_asks (wants.Permits n) made of waker state = refl
+pub plan_asks : (want : Want) (made of : List ℕ) (waker : ℕ) (state : State)
+    → plan (ask_call want made of waker) state ≡ naming (mode_of want) (size_for want) made of (λ n. rules.Ask (tag (mode_of want) made) n waker) state
 plan_asks wants.Lock made of waker state = refl
-plan_asks wants.Read made of waker state = refl
-plan_asks wants.Write made of waker state = refl
+plan_asks want made of waker state = refl
 
-pub plan_tries : (want : Want) (made of : List ℕ) (state : State) → plan (try_call want made of) state ≡ trying (mode_of want) (size_for want) made of state
-plan_tries (wants.Permits n) made of state = refl
+pub plan_tries : (want : Want) (made of : List ℕ) (state : State) → plan (try_call want made of) state ≡ naming (mode_of want) (size_for want) made of (rules.Try (tag (mode_of want) made)) state
 plan_tries wants.Lock made of state = refl
-plan_tries wants.Read made of state = refl
-plan_tries wants.Write made of state = refl
+plan_tries want made of state = refl
 
 pub same_figures : (a a' : ℕ) (f f' : ℤ) (w w' g g' h h' : ℕ) → a ≡ a' → f ≡ f' → w ≡ w' → g ≡ g' → h ≡ h' → replies.Figures a f w g h ≡ replies.Figures a' f' w' g' h'
 same_figures a a' f f' w w' g g' h h' e1 e2 e3 e4 e5 = cc
@@ -95,19 +81,17 @@ module _ (old : Table) (none : wakes_left old ≡ []) (state : State) (stands : 
         ap (is_served n) (line_as it.spot)
         ∙ is_served-rename (stands.tags place) n object.line
 
-    asks : (waker : ℕ) (n : ℕ) → n ≡ size_for want object.kind → plan (ask_call want made of waker) state ≡ Act it.named (rules.Ask (tag (mode_of want) made) n waker)
-    asks waker n size =
-        plan_asks want made of waker state
-        ∙ ap₂ (λ one unused. one >>= λ named. unused >>= λ found. Act named (rules.Ask (tag (mode_of want) made) (size_for want named.object.kind) waker))
+    named_act : (rule : ℕ → Rule (List ℕ)) (n : ℕ) → n ≡ size_for want object.kind → naming (mode_of want) (size_for want) made of rule state ≡ Act it.named (rule n)
+    named_act rule n size =
+        ap₂ (λ one unused. one >>= λ named. unused >>= λ found. Act named (rule (size_for want named.object.kind)))
         (object_there old none state stands (mode_of want) of place it.named is it.there) (unused old none state stands made free)
-        ∙ ap (λ m. Act it.named (rules.Ask (tag (mode_of want) made) m waker)) (ap (size_for want) it.spot.at.kind ∙ sym size)
+        ∙ ap (λ m. Act it.named (rule m)) (ap (size_for want) it.spot.at.kind ∙ sym size)
+
+    asks : (waker : ℕ) (n : ℕ) → n ≡ size_for want object.kind → plan (ask_call want made of waker) state ≡ Act it.named (rules.Ask (tag (mode_of want) made) n waker)
+    asks waker n size = plan_asks want made of waker state ∙ named_act (λ m. rules.Ask (tag (mode_of want) made) m waker) n size
 
     tries : (n : ℕ) → n ≡ size_for want object.kind → plan (try_call want made of) state ≡ Act it.named (rules.Try (tag (mode_of want) made) n)
-    tries n size =
-        plan_tries want made of state
-        ∙ ap₂ (λ one unused. one >>= λ named. unused >>= λ found. Act named (rules.Try (tag (mode_of want) made) (size_for want named.object.kind)))
-        (object_there old none state stands (mode_of want) of place it.named is it.there) (unused old none state stands made free)
-        ∙ ap (λ m. Act it.named (rules.Try (tag (mode_of want) made) m)) (ap (size_for want) it.spot.at.kind ∙ sym size)
+    tries n size = plan_tries want made of state ∙ named_act (rules.Try (tag (mode_of want) made)) n size
 
     -- n are had at once, under the new name
     had : (n : ℕ) (object' : ObjectState) (thing : Thing) (call : Call) (rule : Rule (List ℕ)) (answer : Answer) (reply : Reply) → plan call state ≡ Act it.named rule
@@ -159,25 +143,14 @@ module _ (old : Table) (none : wakes_left old ≡ []) (state : State) (stands : 
         (items ∙ ap (slice_set kept place) object_is) last p.replied
 
   -- the name is taken
-  module _ (names : (n : List ℕ) → table' n ≡ table n) (items : new.objects.items ≡ kept) (want : Want) (made of : List ℕ) (place : ℕ)
-      (is : offering (mode_of want) kept (object_place (table of)) ≡ Ok place)
-      (object : ObjectState) (there : slice_get kept place ≡ Some object) (live_name : IsSome (table made)) where
-    found_one : object_for (mode_of want) (standing of state) ≡ Ok (target old none state stands place object there).named
-    found_one = object_there old none state stands (mode_of want) of place (target old none state stands place object there).named is (target old none state stands place object there).there
-
-    pub ask_taken : (waker : ℕ) → FollowsFrom (ask_call want made of waker) (replies.Refused refusals.Taken) new state
-    ask_taken waker =
-        refused old none state stands new names items (ask_call want made of waker) refusals.Taken
-        (plan_asks want made of waker state
-        ∙ ap₂ (λ one unused. one >>= λ named. unused >>= λ found. Act named (rules.Ask (tag (mode_of want) made) (size_for want named.object.kind) waker)) found_one
-        (taken_name old none state stands made live_name))
-
-    pub try_taken : FollowsFrom (try_call want made of) (replies.Refused refusals.Taken) new state
-    try_taken =
-        refused old none state stands new names items (try_call want made of) refusals.Taken
-        (plan_tries want made of state
-        ∙ ap₂ (λ one unused. one >>= λ named. unused >>= λ found. Act named (rules.Try (tag (mode_of want) made) (size_for want named.object.kind))) found_one
-        (taken_name old none state stands made live_name))
+  pub name_taken : (names : (n : List ℕ) → table' n ≡ table n) (items : new.objects.items ≡ kept) (mode : Mode) (made of : List ℕ) (place : ℕ)
+      → offering mode kept (object_place (table of)) ≡ Ok place → (object : ObjectState) → slice_get kept place ≡ Some object → IsSome (table made)
+      → (call : Call) (size : Kind → ℕ) (rule : ℕ → Rule (List ℕ)) → plan call state ≡ naming mode size made of rule state → FollowsFrom call (replies.Refused refusals.Taken) new state
+  name_taken names items mode made of place is object there live_name call size rule planned =
+      let it = target old none state stands place object there in
+      refused old none state stands new names items call refusals.Taken
+      (planned ∙ ap₂ (λ one unused. one >>= λ named. unused >>= λ found. Act named (rule (size named.object.kind)))
+      (object_there old none state stands mode of place it.named is it.there) (taken_name old none state stands made live_name))
 
   -- a new name is asked for
   pub asks_name : (want : Want) (made of : List ℕ) (waker place : ℕ) (reply : Reply) → offering (mode_of want) kept (object_place (table of)) ≡ Ok place → table made ≡ None
@@ -296,7 +269,7 @@ module _ (old : Table) (none : wakes_left old ≡ []) (state : State) (stands : 
   -- A call of an object of which something is asked is refused where there is none.
   module _ (names : (n : List ℕ) → table' n ≡ table n) (items : new.objects.items ≡ kept) where
     pub refused_for : (call : Call) (mode : Mode) (of : List ℕ) (refusal : Refusal) → offering mode kept (object_place (table of)) ≡ Err refusal
-        → (then : Named → Plan) → plan call state ≡ (object_for mode (standing of state) >>= then) → FollowsFrom call (replies.Refused refusal) new state
+        → (then : Named → Plan) → plan call state ≡ (object_for (λ kind. is_of kind mode) (standing of state) >>= then) → FollowsFrom call (replies.Refused refusal) new state
     refused_for call mode of refusal is then planned =
         refused old none state stands new names items call refusal (planned ∙ ap (λ one. one >>= then) (object_refused old none state stands mode of refusal is))
 
@@ -309,7 +282,7 @@ module _ (old : Table) (none : wakes_left old ≡ []) (state : State) (stands : 
     refused_plain of refusal is =
         refused old none state stands new names items (calls.Status of) refusal
         (ap (λ one. one >>= λ it. Act it rules.Status)
-        (refuses state refusal (object_of (standing of state)) (subst (λ r. FoundAs state r (object_of (standing of state))) is (plain_found old none state stands of))))
+        (refuses state refusal _ (subst (λ r. FoundAs state r (object_for (λ kind. true) (standing of state))) is (plain_found old none state stands of))))
 
   -- A call of an object by its name, where no name changes.
   module _ (names : (n : List ℕ) → table' n ≡ table n) (of : List ℕ) (place : ℕ) (object : ObjectState) (there : slice_get kept place ≡ Some object) where
@@ -339,7 +312,7 @@ module _ (old : Table) (none : wakes_left old ≡ []) (state : State) (stands : 
         (λ n. subst (Touched place (table n)) (sym (names n)) same) items last refl
 
     module _ (is : offering Permit kept (object_place (table of)) ≡ Ok place) where
-      for_permits : object_for Permit (standing of state) ≡ Ok target_there.named
+      for_permits : object_for (λ kind. is_of kind Permit) (standing of state) ≡ Ok target_there.named
       for_permits = object_there old none state stands Permit of place target_there.named is target_there.there
 
       overflows_too : (n : ℕ) → overflows n object_of_it.line (total object_of_it.held) ≡ overflows n object.line object.held
@@ -407,7 +380,7 @@ module _ (old : Table) (none : wakes_left old ≡ []) (state : State) (stands : 
         shows old none state stands new names items (calls.Status of) rules.Status
         (Figures (available object.line) object.line.free (length object.line.waiting) (total object.line.granted) object.held)
         place object target_there
-        (ap (λ s. object_of s >>= λ it. Act it rules.Status) (standing_as old none state stands of (things.Object place) object target_there (object_from (table of) place is)))
+        (ap (λ s. object_for (λ kind. true) s >>= λ it. Act it rules.Status) (standing_as old none state stands of (things.Object place) object target_there (object_from (table of) place is)))
         (ap₂ (λ (l : Line Tag) held. turn (Figures (available l) l.free (length l.waiting) (total l.granted) held) object_of_it) same_line target_there.spot.at.held
         ∙ ap₂ (λ a granted. turn (Figures a object.line.free (length (map (renamed_waiting (stands.tags place)) object.line.waiting)) granted object.held) object_of_it)
         (available-rename (stands.tags place) object.line) granted_same

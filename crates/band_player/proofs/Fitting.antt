@@ -1,41 +1,41 @@
 -- The objects of a sound table know each thing in it.
-use Rattle.std.proofs.Common.{◌≡◌, ℕ, ◌+◌, false, ◌<◌, ◌≤◌, List, Option, Some, None, Ok, refl, sym, ap, ◌∙◌, subst, arith, length}
+use Rattle.std.proofs.Common.{◌≡◌, ℕ, ◌+◌, false, ◌≤◌, List, Option, Some, None, Ok, refl, sym, ap, ◌∙◌, subst, arith}
 use Rattle.std.proofs.Math.Logic.{∥∥₁_elim}
 use Rattle.std.proofs.Props.{props}
 use Rattle.std.specs.List.{slice_get}
-use Rattle.std.specs.Prelude.{slice_index_or as get_or}
 use Rattle.std.specs.Str.{bytes_eq}
 use Rattle.std.proofs.lemmas.Option.{slice_get_within, slice_get_read}
 use Rattle.band_balance.specs.Line.{requests, u64_max, entry_named, without}
-use Rattle.band_balance.specs.Object.{Kind, Mode, Permit, Lock, Read, Write, tag}
-use Rattle.band_balance.specs.Rule.{Fits}
-use Rattle.band_balance.specs.Rule.{has_name as is_tag}
+use Rattle.band_balance.specs.Object.{Kind, Mode, Permit, Lock, tag}
+use Rattle.band_balance.specs.Rule.{Fits, has_name as is_tag}
 use Rattle.band_balance.proofs.Held.{names_apart, other_way}
 use Rattle.band_balance.proofs.Requests.{all-found, entry_named-without_other}
 use Rattle.band_balance.proofs.Rules.{bytes_told}
 use Rattle.band_balance.proofs.Settle.{total-without}
 use Rattle.band_rules.specs.Order.{Sound}
 use Rattle.band_rules.specs.State.{State, Named, Tag}
-use Rattle.band_sem.specs.Request.{Stage, NotPolled, Joined, Finished}
+use Rattle.band_sem.specs.Request.{Stage, Joined}
 use Rattle.band_sem.specs.Semaphore.{IsOwn}
-use Rattle.band_player.specs.Kept.{IsSound}
-use Rattle.band_player.specs.Moves.{IsFit, FitsRequest, FitsHolding, IsJoined, IsNumbered, CanGrow, held_as, mergeable, object_place, offering}
+use Rattle.band_player.specs.Kept.{IsSound, Offered, offering_at}
+use Rattle.band_player.specs.Moves.{IsFit, FitsRequest, FitsHolding, IsJoined, IsNumbered, CanGrow, held_as, mergeable}
+use Rattle.band_player.specs.Apart.{at as at_name}
 use Rattle.band_player.specs.Names.{thing_at, Updated}
 use Rattle.band_player.specs.Objects.{ObjectState, RequestState, HoldingState}
 use Rattle.band_player.specs.Table.{shown, HasSlotAt, StandsAt, StandsUnder}
 use Rattle.band_player.specs.Thing.{Thing, place_at}
 use Rattle.band_player.specs.Thing as things
+use Rattle.band_player.specs.Token.{TokenState, thing_of}
 use Rattle.band_player.specs.Token as tokens
 use Rattle.band_player.specs.declared.table.Table.{Table}
 use Rattle.band_player.proofs.Lists.{also_at, all_at_place, some_at}
 use Rattle.band_player.proofs.Named.{can_merge, held_from, offered, same_holding}
+use Rattle.band_player.proofs.Polled.{Reads, reads}
 use Rattle.band_player.proofs.Stood.{shown_here}
+use Rattle.band_player.proofs.Updates.{token_there}
 
 fits-prop : (kind : Kind) (mode : Mode) (size : ℕ) → IsProp (Fits kind mode size)
-fits-prop kind Permit size = hlevel props
 fits-prop kind Lock size = hlevel props
-fits-prop kind Read size = hlevel props
-fits-prop kind Write size = hlevel props
+fits-prop kind mode size = hlevel props
 
 fits_request-prop : (o : Option ObjectState) (request : RequestState) → IsProp (FitsRequest o request)
 fits_request-prop None request = hlevel props
@@ -45,9 +45,8 @@ fits_request-prop (Some object) request = at_stage request.stage
     fit = fits-prop object.kind request.mode request.size
 
     at_stage : (stage : Stage) → IsProp (IsJoined stage × (request.of ≡ object.number) × IsOwn stage request.size object.line × Fits object.kind request.mode request.size)
-    at_stage NotPolled = hlevel (fit, props)
     at_stage (Joined slot) = hlevel (fit, props)
-    at_stage Finished = hlevel (fit, props)
+    at_stage stage = hlevel (fit, props)
 
 fits_holding-prop : (o : Option ObjectState) (holding : HoldingState) → IsProp (FitsHolding o holding)
 fits_holding-prop None holding = hlevel props
@@ -135,10 +134,16 @@ pub numbered_in : (table : Table) (place : ℕ) → IsSound table → IsNumbered
 numbered_in table place sound = ∥∥₁_elim sound (hlevel props) (λ it. numbered it.1.tags (thing_at table.names) table.objects.items it.0 it.1.under place)
 
 -- the object that was asked of by name, and read at its place
-pub object_within : (table : Table) → IsSound table → (mode : Mode) (of : List ℕ) (place : ℕ) → offering mode table.objects.items (object_place (thing_at table.names of)) ≡ Ok place
-    → place < length table.objects.items
-object_within table sound mode of place is = fits_in table of (things.Object place) sound (offered mode table.objects.items (thing_at table.names of) place is).0
+pub offered_in : (table : Table) → IsSound table → (mode : Mode) (of : List ℕ) (place : ℕ) → offering_at mode table of ≡ Ok place → Offered mode table of place
+offered_in table sound mode of place is =
+    let within = fits_in table of (things.Object place) sound (offered mode table.objects.items (thing_at table.names of) place is).0 in
+    record { is = is; within = within; there = λ object read. slice_get_read table.objects.items _ place object refl within read }
 
-pub object_read : (table : Table) → IsSound table → (mode : Mode) (of : List ℕ) (place : ℕ) → offering mode table.objects.items (object_place (thing_at table.names of)) ≡ Ok place
-    → (object : ObjectState) → object ≡ get_or table.objects.items place object → slice_get table.objects.items place ≡ Some object
-object_read table sound mode of place is object read = slice_get_read table.objects.items _ place object refl (object_within table sound mode of place is) read
+-- the object of a name that is a token
+pub known : (table : Table) (name : List ℕ) (token : TokenState) (place : ℕ) → IsSound table → thing_at table.names name ≡ Some (thing_of token) → place ≡ place_at (thing_of token)
+    → Reads table.objects.items token place
+known table name token place sound is at = reads table.objects.items token place at (fits_in table name (thing_of token) sound is)
+
+pub known_token : (table : Table) (name : List ℕ) (token : TokenState) (place : ℕ) → IsSound table → at_name table.names.tokens name ≡ Some token → place ≡ place_at (thing_of token)
+    → Reads table.objects.items token place
+known_token table name token place sound is = known table name token place sound (token_there table.names name token is)

@@ -1,5 +1,5 @@
 -- What the player's table comes to by a call, from each state that it stands for.
-use Rattle.std.proofs.Common.{◌≡◌, ℕ, ◌==◌, List, [], Option, Some, None, refl, sym, ap, ap₂, ◌∙◌, subst, eqb-true, eq-eqb}
+use Rattle.std.proofs.Common.{◌≡◌, ℕ, ◌==◌, List, [], Option, Some, None, Result, Ok, Err, IfOk, OnErr, refl, sym, ap, ap₂, ◌∙◌, subst, eqb-true, eq-eqb}
 use Rattle.std.proofs.Math.Logic.{∥∥₁_elim, ∥∥₁_map}
 use Rattle.std.proofs.Props.{props}
 use Rattle.std.specs.List.{slice_get, slice_set}
@@ -17,7 +17,7 @@ use Rattle.band_rules.specs.Plan.{Refuse, Act, plan}
 use Rattle.band_rules.specs.State.{State, Named, Tag, Absent, standing}
 use Rattle.band_rules.specs.Step.{Effect, reply_of, perform, with_object, step}
 use Rattle.band_script.specs.declared.call.Call.{Call}
-use Rattle.band_player.specs.Kept.{wakes_of, wakes_left, OthersQuiet, StandsFor, IsSound, FollowsFrom, Follows, DidWork, Stays}
+use Rattle.band_player.specs.Kept.{wakes_of, wakes_left, OthersQuiet, StandsFor, IsSound, FollowsFrom, Follows, DidWork, Works, Stays, Answered, Wanting}
 use Rattle.band_player.specs.Names.{thing_at}
 use Rattle.band_player.specs.Objects.{ObjectState}
 use Rattle.band_player.specs.Table.{shown_of, StandsUnder}
@@ -29,8 +29,12 @@ use Rattle.band_player.proofs.Lists.{also_at, all_at_place, at_set_same, at_set_
 use Rattle.band_player.proofs.Stood.{stands_as, standing_there, absent_there}
 
 -- a table that stands for a state, or did
-pub sound_after : (old new : Table) (call : Call) (reply : Reply) → IsSound old → Follows call old reply new → IsSound new
-sound_after old new call reply sound follows = ∥∥₁_map sound (λ it. ((step call it.0).state, (follows it.0 it.1).stands))
+pub answered : (old new : Table) (call : Call) (reply : Reply) → IsSound old → Follows call old reply new → Answered call old reply new
+answered old new call reply sound follows = record { follows = follows; sound = ∥∥₁_map sound (λ it. ((step call it.0).state, (follows it.0 it.1).stands)) }
+
+pub sound_either : {E : Type 0} (old new : Table) (call : Call) (result : Result Reply E) → IfOk result (λ reply. Answered call old reply new) → OnErr result (Wanting call old new) → IsSound new
+sound_either old new call (Ok reply) ok err = ok.sound
+sound_either old new call (Err error) ok err = err.sound
 
 pub sound_still : (old new : Table) → IsSound old → Stays old new → IsSound new
 sound_still old new sound stays = ∥∥₁_map sound (λ it. (it.0, stays it.0 it.1))
@@ -150,9 +154,9 @@ module _ (old : Table) (none : wakes_left old ≡ []) (state : State) (stands : 
   works call rule named planned did = subst (λ p. DidWork (perform p state).reply) (sym planned) did
 
 -- a table with the same names and objects stands for the same, whichever object was called last
-pub same_table : (old : Table) → IsSound old → wakes_left old ≡ [] → (new : Table) → ((name : List ℕ) → thing_at new.names name ≡ thing_at old.names name) → new.objects.items ≡ old.objects.items
-    → Stays old new × (wakes_left new ≡ [])
-same_table old sound none new names items = (
-  (λ state stands. same_stands old none state stands new names items),
-  ∥∥₁_elim sound (hlevel props) (λ it. none_still old none it.0 it.1 new names items),
-)
+pub wanting : (old : Table) → IsSound old → wakes_left old ≡ [] → (new : Table) → ((name : List ℕ) → thing_at new.names name ≡ thing_at old.names name) → new.objects.items ≡ old.objects.items
+    → (call : Call) → Works call old → Wanting call old new
+wanting old sound none new names items call works =
+    let stays : Stays old new = λ state stands. same_stands old none state stands new names items in
+    let quiet : wakes_left new ≡ [] = ∥∥₁_elim sound (hlevel props) (λ it. none_still old none it.0 it.1 new names items) in
+    record { stays = stays; quiet = quiet; works = works; sound = sound_still old new sound stays }

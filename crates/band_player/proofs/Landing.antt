@@ -6,22 +6,17 @@ use Rattle.std.specs.Str.{bytes_eq}
 use Rattle.std.proofs.lemmas.Bool.{cond-true, cond-false, false≢true, le-leb}
 use Rattle.std.proofs.lemmas.List.Sorted.{IsPermutation-sym}
 use Rattle.std.proofs.lemmas.Option.{none-some}
-use Rattle.band_balance.specs.Line.{Entry, Line, AreAlike, entry_of, requests, total, rename, renamed, entry_named, without, is_served, take_permits, give_back, join, poll_granted, poll_waiting}
-use Rattle.band_balance.specs.Line.{cancel}
-use Rattle.band_balance.specs.Object.{Kind, Semaphore, Mutex, ReaderWriter, Mode, Permit, Read, Write, Answer, Done, Ready, Pending, tag, size_of}
-use Rattle.band_balance.specs.Object.{turn, hold, change, size_in}
+use Rattle.band_balance.specs.Line.{Entry, Line, AreAlike, entry_of, requests, total, rename, renamed, entry_named, without, is_served, take_permits, give_back, join, poll_granted, poll_waiting, cancel}
+use Rattle.band_balance.specs.Object.{Kind, Semaphore, Mutex, ReaderWriter, Mode, Permit, Read, Write, Answer, Done, Ready, Pending, tag, size_of, turn, hold, change, size_in}
 use Rattle.band_balance.proofs.Turns.{poll_of, drop_of, split_by, merge_by}
-use Rattle.band_balance.specs.Rule.{Rule, act}
-use Rattle.band_balance.specs.Rule.{has_name as is_tag}
+use Rattle.band_balance.specs.Rule.{Rule, act, has_name as is_tag}
 use Rattle.band_balance.specs.Rule as rules
-use Rattle.band_balance.proofs.Alike.{alike_is, alike_back, alike_then, with_granted, requests-alike, take_permits-alike, give_back-alike, join-alike, granted-alike, poll_granted-alike}
-use Rattle.band_balance.proofs.Alike.{poll_waiting-alike, cancel-alike, rename-alike, named_once, pairwise-order, pairwise_front}
+use Rattle.band_balance.proofs.Alike.{alike_is, alike_back, alike_then, with_granted, requests-alike, take_permits-alike, give_back-alike, join-alike, granted-alike, poll_granted-alike, poll_waiting-alike, cancel-alike, rename-alike, named_once, pairwise-order, pairwise_front}
 use Rattle.band_balance.proofs.Distinct.{named_at, named_at_itself, named_at_other, rename-join_named_at, stays-cancel, stays-poll_granted}
 use Rattle.band_balance.proofs.Held.{by_bool, other_way, names_apart, total-push, total-change, found-change, all-change, other-change}
-use Rattle.band_balance.proofs.Orderly.{pairwise-push, pairwise-without}
+use Rattle.band_balance.proofs.Orderly.{pairwise-without}
 use Rattle.band_balance.proofs.Rename.{all_of_first, all_of_second, give_back-rename, poll_granted-rename, poll_waiting-rename, cancel-rename_requests, entry_named-rename, requests-rename}
-use Rattle.band_balance.proofs.Requests.{count_named, all-weaker, all-without, all-not_named, requests-give_back, requests-poll_waiting, requests-poll_granted, requests-cancel, entry_named-push_other}
-use Rattle.band_balance.proofs.Requests.{entry_named-push_itself, entry_named-without_other, entry_named-poll_granted_other, entry_named-cancel_other, entry_named-join_other, entry_named-join_itself}
+use Rattle.band_balance.proofs.Requests.{count_named, all-without, requests-give_back, requests-poll_waiting, requests-poll_granted, requests-cancel, entry_named-push_other, entry_named-push_itself, entry_named-without_other, entry_named-poll_granted_other, entry_named-cancel_other, entry_named-join_other, entry_named-join_itself}
 use Rattle.band_balance.proofs.Rules.{bytes_told}
 use Rattle.band_balance.proofs.Settle.{total-without}
 use Rattle.band_rules.specs.State.{Named, Tag}
@@ -35,7 +30,7 @@ use Rattle.band_player.specs.Table.{Seen, seen, unseen, shown_of, shown, quiet, 
 use Rattle.band_player.specs.Thing.{Thing, place_at}
 use Rattle.band_player.specs.Thing as things
 use Rattle.band_player.proofs.Acting.{Lands, updated_same}
-use Rattle.band_player.proofs.Slots.{NamedOnce, gone_without, agrees}
+use Rattle.band_player.proofs.Slots.{NamedOnce, once_push, gone_without, agrees}
 use Rattle.band_player.proofs.Stood.{shown_here}
 
 -- what is held changes under its name
@@ -81,10 +76,8 @@ module _ (place : ℕ) (table table' : List ℕ → Option Thing) (it : List ℕ
       (λ h. subst (HasSlotAt tags' place line' name) (sym (updated.others name h)) (go (table name) (slots name) h))
     where
       go : (thing : Option Thing) → HasSlotAt tags place line name thing → bytes_eq it name ≡ false → HasSlotAt tags' place line' name thing
-      go None has h = tt
-      go (Some (things.Object other)) has h = tt
       go (Some (things.Request other request)) has h = λ here. keeps name request h (has here)
-      go (Some (things.Holding holding)) has h = tt
+      go thing has h = tt
 
 -- a slot stays where its request does
 module _ (tags tags' : ℕ → Tag) (place : ℕ) (line line' : Line ℕ) (name : List ℕ) (request : RequestState) (has : HasSlot tags place line name request) where
@@ -95,11 +88,9 @@ module _ (tags tags' : ℕ → Tag) (place : ℕ) (line line' : Line ℕ) (name 
 pub slots_kept : (tags : ℕ → Tag) (place : ℕ) (line line' : Line ℕ) → ((slot : ℕ) → entry_named (is_slot slot) (requests line') ≡ entry_named (is_slot slot) (requests line))
     → (name : List ℕ) (thing : Option Thing)
     → HasSlotAt tags place line name thing → HasSlotAt tags place line' name thing
-slots_kept tags place line line' is name None has = tt
-slots_kept tags place line line' is name (Some (things.Object other)) has = tt
 slots_kept tags place line line' is name (Some (things.Request other request)) has =
     λ here. slot_kept tags tags place line line' name request (has here) refl (is (has here).slot)
-slots_kept tags place line line' is name (Some (things.Holding holding)) has = tt
+slots_kept tags place line line' is name thing has = tt
 
 -- What is kept for an object may have those granted in another order.
 module _ (one other : ObjectState) (like : IsLikeObject one other) (steady : IsSteady other) where
@@ -203,10 +194,7 @@ module _ {tags : ℕ → Tag} {table : List ℕ → Option Thing} {place : ℕ} 
         let none : entry_named (is_tag bytes_eq made.name) held ≡ None = ap (λ s. s.holding) (was_unseen made.name free) in
         lands rule answer tags table' (on_semaphore (taken size) object) (take_permits size line) (hold made size held) turns (take_permits-alike size (rename tags object.line) line line_is) refl refl
         (total-push held new ∙ ap (λ n. n + size) spot.at.held)
-        (pairwise-push _ held new spot.at.held_once
-        (all-weaker _ (λ (e : Entry Tag). bytes_eq e.name.name made.name ≡ false) (λ e apart. other_way bytes_eq bytes_told made.name e.name.name apart) held
-        (all-not_named (is_tag bytes_eq made.name) held none)))
-        steady
+        (once_push held new spot.at.held_once none) steady
         (every_one place table table' made.name _ updated named (with_this (take_permits size line) (hold made size held)) refl spot.at.every (λ name apart. refl)
         (λ name apart. entry_named-push_other (is_tag bytes_eq name) held new (other_way bytes_eq bytes_told made.name name apart))
         (seen_as _ _ (ap (λ s. s.named) (was_unseen made.name free)) (ap (λ s. s.request) (was_unseen made.name free))
@@ -322,11 +310,7 @@ module _ {tags : ℕ → Tag} {table : List ℕ → Option Thing} {place : ℕ} 
           (ap (λ o. poll_of o (is_tag bytes_eq name) waker named.object) there)
           (subst (λ (l : Line Tag). AreAlike l (poll_granted (is_tag bytes_eq name) line)) (poll_granted-rename tags (is_slot own_slot) (is_tag bytes_eq name) object.line granted_agree)
           (poll_granted-alike (is_tag bytes_eq name) (rename tags object.line) line line_is granted_once)) refl refl
-          (total-push held the_entry ∙ ap (λ n. n + request.size) spot.at.held)
-          (pairwise-push _ held the_entry spot.at.held_once
-          (all-weaker _ (λ (e : Entry Tag). bytes_eq e.name.name name ≡ false) (λ e apart. other_way bytes_eq bytes_told name e.name.name apart) held
-          (all-not_named (is_tag bytes_eq name) held none)))
-          steady
+          (total-push held the_entry ∙ ap (λ n. n + request.size) spot.at.held) (once_push held the_entry spot.at.held_once none) steady
           (every_one place table table' name _ updated named (with_this (poll_granted (is_tag bytes_eq name) line) (held ++ the_entry ∷ [])) refl spot.at.every
           (λ other apart. entry_named-poll_granted_other (is_tag bytes_eq name) (is_tag bytes_eq other) line (names_apart bytes_eq bytes_told name other apart (requests line)))
           (λ other apart. entry_named-push_other (is_tag bytes_eq other) held the_entry (other_way bytes_eq bytes_told name other apart))
@@ -461,10 +445,7 @@ module _ {tags : ℕ → Tag} {table : List ℕ → Option Thing} {place : ℕ} 
         lands (rules.Split name made n) Done tags table' object line (hold (tag Permit made) n left_held)
         (ap (λ o. split_by (size_in o) (is_tag bytes_eq name) (tag Permit made) n named.object) found_it ∙ cond-true _ _ _ (le-leb n whole.count enough)) line_is refl refl
         (total-push left_held part ∙ omega (arith, spot.at.held))
-        (pairwise-push _ left_held part (changed_once name whole here is less same others whole.mode (whole.count - n) refl)
-        (all-weaker _ (λ (e : Entry Tag). bytes_eq e.name.name made ≡ false) (λ e differs. other_way bytes_eq bytes_told made e.name.name differs) left_held
-        (all-not_named (is_tag bytes_eq made) left_held none)))
-        steady
+        (once_push left_held part (changed_once name whole here is less same others whole.mode (whole.count - n) refl) none) steady
         (every_one place mid table' made _ added (with_this line left_held) (with_this line (hold (tag Permit made) n left_held)) refl
         (every_changed name whole here is less same others whole.mode (whole.count - n) refl mid line refl parted) (λ other differs. refl)
         (λ other differs. entry_named-push_other (is_tag bytes_eq other) left_held part (other_way bytes_eq bytes_told made other differs))

@@ -1,7 +1,9 @@
 -- Lists by place.
-use Rattle.std.proofs.Common.{◌≡◌, ℕ, ◌<◌, zero, suc, List, [], ◌∷◌, length, Some, refl, sym, ap, subst, arith}
+use Rattle.std.proofs.Common.{◌≡◌, ℕ, ◌==◌, ◌<◌, zero, suc, List, [], ◌∷◌, length, Some, refl, sym, ap, ◌∙◌, subst, arith, eqb-true, eq-eqb}
 use Rattle.std.specs.List.{AllByRecursion, slice_get, slice_set}
+use Rattle.std.proofs.lemmas.Bool.{false≢true}
 use Rattle.std.proofs.lemmas.Option.{slice_get_within, none-some, same_Some}
+use Rattle.band_balance.proofs.Held.{by_bool}
 
 -- two lists of one length have the same places
 pub also_at : {A B : Type 0} (xs : List A) (ys : List B) (k : ℕ) (y : B) → length xs ≡ length ys → slice_get ys k ≡ Some y → (x : A) × (slice_get xs k ≡ Some x)
@@ -22,6 +24,16 @@ at_set_other (z ∷ zs) zero zero y apart = absurd (apart refl)
 at_set_other (z ∷ zs) zero (suc j) y apart = refl
 at_set_other (z ∷ zs) (suc k) zero y apart = refl
 at_set_other (z ∷ zs) (suc k) (suc j) y apart = at_set_other zs k j y (λ e. apart (ap suc e))
+
+-- what holds at each place once one element was replaced
+pub each_replaced : {A : Type 0} (P : ℕ → A → Type 0) (xs : List A) (k : ℕ) (x y : A) → slice_get xs k ≡ Some x → P k y
+    → ((j : ℕ) (z : A) → (j ≡ k → ⊥) → slice_get xs j ≡ Some z → P j z) → (j : ℕ) (z : A) → slice_get (slice_set xs k y) j ≡ Some z → P j z
+each_replaced P xs k x y there own others j z at =
+    by_bool (k == j)
+    (λ h.
+    let same = eqb-true k j h in
+    subst (λ i. P i z) same (subst (P k) (same_Some y z (sym (at_set_same xs k x y there) ∙ ap (slice_get (slice_set xs k y)) same ∙ at)) own))
+    (λ h. let apart : j ≡ k → ⊥ = λ e. false≢true (sym h ∙ eq-eqb k j (sym e)) in others j z apart (sym (at_set_other xs k j y apart) ∙ at))
 
 -- what stands at a place, put there again
 pub set_itself : {A : Type 0} (xs : List A) (k : ℕ) (x : A) → slice_get xs k ≡ Some x → slice_set xs k x ≡ xs

@@ -1,15 +1,16 @@
 -- What a call finds under a name, in the table and in a state that it stands for.
-use Rattle.std.proofs.Common.{◌≡◌, ℕ, ◌==◌, Bool, true, false, not, cond, List, [], Option, Some, None, IsSome, Result, Ok, Err, refl, sym, ap, ◌∙◌, subst, eqb-true}
+use Rattle.std.proofs.Common.{◌≡◌, ℕ, ◌==◌, Bool, true, false, cond, List, [], Option, Some, None, IsSome, Result, Ok, Err, refl, sym, ap, ◌∙◌, subst, eqb-true}
 use Rattle.std.specs.List.{slice_get}
 use Rattle.std.specs.Str.{bytes_eq}
 use Rattle.std.proofs.lemmas.Bool.{cond-false, false≢true}
 use Rattle.std.proofs.lemmas.Option.{same_Some}
 use Rattle.band_base.specs.declared.refusal.Refusal.{Refusal}
-use Rattle.band_base.specs.declared.refusal.Refusal.TheVariants.{Kind, Unknown, Taken}
+use Rattle.band_base.specs.declared.refusal.Refusal.TheVariants.{Kind, Taken}
 use Rattle.band_balance.specs.Object.{Mode, is_of}
 use Rattle.band_balance.proofs.Held.{by_bool}
 use Rattle.band_balance.proofs.Rules.{bytes_told}
-use Rattle.band_rules.specs.Plan.{object_of, object_for, lender, same_mode, is_taken, refuse_if}
+use Rattle.band_rules.specs.Plan.{object_for, lender, same_mode}
+use Rattle.band_rules.proofs.Planned.{if_live, if_unused}
 use Rattle.band_rules.specs.State.{State, Named, Standing, Absent, standing}
 use Rattle.band_player.specs.Kept.{wakes_left, StandsFor}
 use Rattle.band_player.specs.Moves.{object_place, offers_at, offering, held_as}
@@ -23,13 +24,6 @@ use Rattle.band_player.proofs.Follow.{Target, target, absent, standing_as}
 use Rattle.band_player.proofs.Lists.{some_at}
 use Rattle.band_player.proofs.Named.{live_thing}
 use Rattle.band_player.proofs.Stood.{stands_as, shown_elsewhere, seen_at}
-
--- what refuses a name that is live, or that isn't
-abbrev pub if_live : Standing → Result (Unit {0}) Refusal
-if_live standing = refuse_if (not (is_taken standing)) Unknown
-
-abbrev pub if_unused : Standing → Result (Unit {0}) Refusal
-if_unused standing = refuse_if (is_taken standing) Taken
 
 -- what was found is the object at the place, or the refusal is one
 abbrev pub FoundAs : State → Result ℕ Refusal → Result Named Refusal → Type 0
@@ -80,27 +74,26 @@ module _ (old : Table) (none : wakes_left old ≡ []) (state : State) (stands : 
       go None is = subst (λ s. FoundAs state (F None) (G s)) (sym (absent old none state stands name is)) nothing
       go (Some thing) is = subst (λ s. FoundAs state (F (Some thing)) (G s)) (sym (standing_live name thing is)) (something thing (live name thing is))
 
-  pub object_found : (mode : Mode) (of : List ℕ) → FoundAs state (offering mode kept (object_place (table of))) (object_for mode (standing of state))
-  object_found mode of = found of (λ o. offering mode kept (object_place o)) (object_for mode) refl something
+  pub object_found : (mode : Mode) (of : List ℕ) → FoundAs state (offering mode kept (object_place (table of))) (object_for (λ kind. is_of kind mode) (standing of state))
+  object_found mode of = found of (λ o. offering mode kept (object_place o)) (object_for (λ kind. is_of kind mode)) refl something
     where
       either : (b : Bool) (place : ℕ) (named : Named) → slice_get state place ≡ Some named → FoundAs state (cond b (Ok place) (Err Kind)) (cond b (Ok named) (Err Kind))
       either true place named there = there
       either false place named there = refl
 
-      something : (thing : Thing) (l : Live (place_at thing)) → FoundAs state (offering mode kept (object_place (Some thing))) (object_for mode (stands_as l.it.named (shown_of of thing) Absent))
+      something : (thing : Thing) (l : Live (place_at thing))
+          → FoundAs state (offering mode kept (object_place (Some thing))) (object_for (λ kind. is_of kind mode) (stands_as l.it.named (shown_of of thing) Absent))
       something (things.Object place) l =
           subst (λ b. FoundAs state (cond b (Ok place) (Err Kind)) (cond (is_of l.it.named.object.kind mode) (Ok l.it.named) (Err Kind)))
           (ap (λ k. is_of k mode) l.it.spot.at.kind ∙ ap (offers_at mode) (sym l.kept_there)) (either (is_of l.it.named.object.kind mode) place l.it.named l.it.there)
-      something (things.Request place request) l = refl
-      something (things.Holding holding) l = refl
+      something thing l = refl
 
-  pub plain_found : (of : List ℕ) → FoundAs state (object_place (table of)) (object_of (standing of state))
-  plain_found of = found of object_place object_of refl something
+  pub plain_found : (of : List ℕ) → FoundAs state (object_place (table of)) (object_for (λ kind. true) (standing of state))
+  plain_found of = found of object_place (object_for (λ kind. true)) refl something
     where
-      something : (thing : Thing) (l : Live (place_at thing)) → FoundAs state (object_place (Some thing)) (object_of (stands_as l.it.named (shown_of of thing) Absent))
+      something : (thing : Thing) (l : Live (place_at thing)) → FoundAs state (object_place (Some thing)) (object_for (λ kind. true) (stands_as l.it.named (shown_of of thing) Absent))
       something (things.Object place) l = l.it.there
-      something (things.Request place request) l = refl
-      something (things.Holding holding) l = refl
+      something thing l = refl
 
   pub held_found : (mode : Mode) (name : List ℕ) → FoundAs state (place_held (held_as mode (table name))) (lender mode (standing name state))
   held_found mode name = found name (λ o. place_held (held_as mode o)) (lender mode) refl something
@@ -111,9 +104,8 @@ module _ (old : Table) (none : wakes_left old ≡ []) (state : State) (stands : 
       either false holding named there = refl
 
       something : (thing : Thing) (l : Live (place_at thing)) → FoundAs state (place_held (held_as mode (Some thing))) (lender mode (stands_as l.it.named (shown_of name thing) Absent))
-      something (things.Object place) l = refl
-      something (things.Request place request) l = refl
       something (things.Holding holding) l = either (same_mode mode holding.mode) holding l.it.named l.it.there
+      something thing l = refl
 
   pub held_refused : (mode : Mode) (name : List ℕ) (refusal : Refusal) → held_as mode (table name) ≡ Err refusal → lender mode (standing name state) ≡ Err refusal
   held_refused mode name refusal is = refuses state refusal (lender mode (standing name state))
@@ -124,13 +116,14 @@ module _ (old : Table) (none : wakes_left old ≡ []) (state : State) (stands : 
   held_by mode name holding named is there =
       finds state holding.of named (lender mode (standing name state)) (subst (λ h. FoundAs state (place_held h) (lender mode (standing name state))) is (held_found mode name)) there
 
-  pub object_refused : (mode : Mode) (of : List ℕ) (refusal : Refusal) → offering mode kept (object_place (table of)) ≡ Err refusal → object_for mode (standing of state) ≡ Err refusal
-  object_refused mode of refusal is = refuses state refusal (object_for mode (standing of state)) (subst (λ r. FoundAs state r (object_for mode (standing of state))) is (object_found mode of))
+  pub object_refused : (mode : Mode) (of : List ℕ) (refusal : Refusal) → offering mode kept (object_place (table of)) ≡ Err refusal
+      → object_for (λ kind. is_of kind mode) (standing of state) ≡ Err refusal
+  object_refused mode of refusal is = refuses state refusal _ (subst (λ r. FoundAs state r (object_for (λ kind. is_of kind mode) (standing of state))) is (object_found mode of))
 
   pub object_there : (mode : Mode) (of : List ℕ) (place : ℕ) (named : Named) → offering mode kept (object_place (table of)) ≡ Ok place → slice_get state place ≡ Some named
-      → object_for mode (standing of state) ≡ Ok named
+      → object_for (λ kind. is_of kind mode) (standing of state) ≡ Ok named
   object_there mode of place named is there =
-      finds state place named (object_for mode (standing of state)) (subst (λ r. FoundAs state r (object_for mode (standing of state))) is (object_found mode of)) there
+      finds state place named _ (subst (λ r. FoundAs state r (object_for (λ kind. is_of kind mode) (standing of state))) is (object_found mode of)) there
 
   pub unused : (name : List ℕ) → table name ≡ None → if_unused (standing name state) ≡ Ok tt
   unused name free = ap if_unused (absent old none state stands name free)
@@ -142,16 +135,14 @@ module _ (old : Table) (none : wakes_left old ≡ []) (state : State) (stands : 
     where
       go : (thing : Thing) (l : Live (place_at thing)) → if_unused (stands_as l.it.named (shown_of name thing) Absent) ≡ Err Taken
       go (things.Object place) l = refl
-      go (things.Request place request) l = refl
-      go (things.Holding holding) l = refl
+      go thing l = refl
 
   pub is_live : (name : List ℕ) (thing : Thing) → table name ≡ Some thing → if_live (standing name state) ≡ Ok tt
   is_live name thing is = ap if_live (standing_live name thing is) ∙ go thing (live name thing is)
     where
       go : (thing : Thing) (l : Live (place_at thing)) → if_live (stands_as l.it.named (shown_of name thing) Absent) ≡ Ok tt
       go (things.Object place) l = refl
-      go (things.Request place request) l = refl
-      go (things.Holding holding) l = refl
+      go thing l = refl
 
   -- objects at two places have two names
   pub apart_by_place : (place other : ℕ) (a b : Named) → slice_get state place ≡ Some a → slice_get state other ≡ Some b → (place ≡ other → ⊥) → bytes_eq a.name b.name ≡ false

@@ -5,17 +5,17 @@ use Rattle.std.specs.Str.{bytes_eq}
 use Rattle.std.proofs.lemmas.Option.{none-some, same_Some, slice_get_within}
 use Rattle.band_base.specs.declared.refusal.Refusal.TheVariants as refusals
 use Rattle.band_balance.specs.Laws.{HasAShare}
-use Rattle.band_balance.specs.Object.{Object, Semaphore, Mutex, ReaderWriter, new_object}
+use Rattle.band_balance.specs.Object.{Object, new_object}
 use Rattle.band_balance.specs.Line.{open_line}
 use Rattle.band_balance.proofs.Alike.{alike_itself}
 use Rattle.band_balance.proofs.Held.{by_bool, other_way}
 use Rattle.band_balance.proofs.Rules.{bytes_told}
 use Rattle.band_rules.specs.Order.{IsInOrder}
-use Rattle.band_rules.specs.Plan.{Make, ◌>>=◌, most_readers, plan}
+use Rattle.band_rules.specs.Plan.{Make, ◌>>=◌, plan}
 use Rattle.band_rules.specs.State.{State, Named, Tag, standing}
 use Rattle.band_rules.specs.Step.{Effect, perform, step}
 use Rattle.band_rules.specs.declared.reply.Reply.TheVariants as replies
-use Rattle.band_rules.proofs.Planned.{some_readers}
+use Rattle.band_rules.proofs.Planned.{some_readers, if_unused}
 use Rattle.band_rules.proofs.Runs.{in_order-step}
 use Rattle.band_script.specs.Call.{ForReaders}
 use Rattle.band_sem.specs.Semaphore.{new_state}
@@ -23,7 +23,7 @@ use Rattle.band_player.specs.Kept.{wakes_of, wakes_left, StandsFor, FollowsFrom,
 use Rattle.band_player.specs.Moves.{kind_made, count_made, make_call}
 use Rattle.band_player.specs.Names.{thing_at, Updated}
 use Rattle.band_player.specs.Objects.{ObjectState, IsSteady, of_kind}
-use Rattle.band_player.specs.Table.{seen, unseen, shown, HasSlotAt, StandsAt, StandsUnder}
+use Rattle.band_player.specs.Table.{unseen, shown, HasSlotAt, StandsAt, StandsUnder}
 use Rattle.band_player.specs.Thing.{Thing}
 use Rattle.band_player.specs.Thing as things
 use Rattle.band_player.specs.declared.object.New.{New}
@@ -31,7 +31,7 @@ use Rattle.band_player.specs.declared.object.New.TheVariants as news
 use Rattle.band_player.specs.declared.table.Table.{Table}
 use Rattle.band_player.proofs.Acting.{IsOf, shown_there, slot_there, stands_by, there_still, Touched, touched_one}
 use Rattle.band_player.proofs.Follow.{none_woken, refused}
-use Rattle.band_player.proofs.Lookups.{taken_name, unused, if_unused}
+use Rattle.band_player.proofs.Lookups.{taken_name, unused}
 use Rattle.band_player.proofs.Stood.{shown_here, shown_elsewhere}
 
 -- what stands at a place once one more came last
@@ -46,14 +46,11 @@ at_push (y ∷ ys) new (suc k) x at = go (at_push ys new k x at)
     go (inr last) = inr (ap suc last.0, last.1)
 
 abbrev pub object_made : New → Object Tag
-object_made (news.Semaphore n) = new_object Semaphore n
-object_made news.Mutex = new_object Mutex 1
-object_made (news.ReaderWriter n) = new_object (ReaderWriter (most_readers n)) (most_readers n)
+object_made new = new_object (kind_made new) (count_made new)
 
 plan_makes : (new : New) (made : List ℕ) (state : State) → plan (make_call new made) state ≡ (if_unused (standing made state) >>= λ found. Make made (object_made new))
-plan_makes (news.Semaphore n) made state = refl
 plan_makes news.Mutex made state = refl
-plan_makes (news.ReaderWriter n) made state = refl
+plan_makes new made state = refl
 
 -- so the object has readers
 pub lets_in : (new : New) (made : List ℕ) → ForReaders (make_call new made) → HasAShare (kind_made new)
@@ -66,27 +63,12 @@ module _ (new : New) (made : List ℕ) where
   abbrev new_named : Named
   new_named = record { name = made; object = object_made new }
 
-  new_seen : (name : List ℕ) → seen name new_named ≡ record unseen { named = bytes_eq name made }
-  new_seen name = go new
-    where
-      go : (new : New) → seen name (record { name = made; object = object_made new }) ≡ record unseen { named = bytes_eq name made }
-      go (news.Semaphore n) = refl
-      go news.Mutex = refl
-      go (news.ReaderWriter n) = refl
-
   new_stands : (tags : ℕ → Tag) (table : List ℕ → Option Thing) (place : ℕ) → IsSteady (of_kind (kind_made new) (new_state place (count_made new)))
       → ((name : List ℕ) → record unseen { named = bytes_eq name made } ≡ shown place name (table name))
       → ((name : List ℕ) → HasSlotAt tags place (new_state place (count_made new)).line name (table name))
       → StandsAt tags table place (of_kind (kind_made new) (new_state place (count_made new))) new_named
-  new_stands tags table place steady every slots = go new steady (λ name. new_seen name ∙ every name) slots
-    where
-      go : (new : New) → IsSteady (of_kind (kind_made new) (new_state place (count_made new)))
-          → ((name : List ℕ) → seen name (record { name = made; object = object_made new }) ≡ shown place name (table name))
-          → ((name : List ℕ) → HasSlotAt tags place (new_state place (count_made new)).line name (table name))
-          → StandsAt tags table place (of_kind (kind_made new) (new_state place (count_made new))) (record { name = made; object = object_made new })
-      go (news.Semaphore n) steady every slots = record { kind = refl; number = refl; line = alike_itself (open_line _); held = refl; held_once = tt; steady = steady; every = every; slots = slots }
-      go news.Mutex steady every slots = record { kind = refl; number = refl; line = alike_itself (open_line _); held = refl; held_once = tt; steady = steady; every = every; slots = slots }
-      go (news.ReaderWriter n) steady every slots = record { kind = refl; number = refl; line = alike_itself (open_line _); held = refl; held_once = tt; steady = steady; every = every; slots = slots }
+  new_stands tags table place steady every slots =
+      record { kind = refl; number = refl; line = alike_itself (open_line _); held = refl; held_once = tt; steady = steady; every = every; slots = slots }
 
 -- a name that is taken
 pub make_taken : (old : Table) (none : wakes_left old ≡ []) (state : State) (stands : StandsFor old state) (new : New) (made : List ℕ) → IsSome (thing_at old.names made)
@@ -152,10 +134,8 @@ module _ (old : Table) (none : wakes_left old ≡ []) (state : State) (stands : 
         (λ h. subst (HasSlotAt (stands.tags place) place (new_state place (count_made new)).line name) (sym (updated.others name h)) (no_slot name (table name) refl))))
       where
         no_slot : (name : List ℕ) (o : Option Thing) → table name ≡ o → HasSlotAt (stands.tags place) place (new_state place (count_made new)).line name o
-        no_slot name None is = tt
-        no_slot name (Some (things.Object other)) is = tt
         no_slot name (Some (things.Request other request)) is = λ here. absurd (omega (arith, stands.under.there name (things.Request other request) is))
-        no_slot name (Some (things.Holding holding)) is = tt
+        no_slot name thing is = tt
 
     each_stands : (other : ℕ) (kept_other : ObjectState) (another : Named) → slice_get (kept ++ object ∷ []) other ≡ Some kept_other → slice_get (state ++ new_named new made ∷ []) other ≡ Some another
         → StandsAt (stands.tags other) table' other kept_other another

@@ -7,10 +7,11 @@ use Rattle.std.proofs.lemmas.Bool.{cond-true, cond-false, true≢false}
 use Rattle.std.proofs.lemmas.Option.{none-some}
 use Rattle.band_base.specs.declared.refusal.Refusal.{Refusal}
 use Rattle.band_base.specs.declared.refusal.Refusal.TheVariants.{Kind, Same, Other}
-use Rattle.band_balance.specs.Object.{Mode, Permit, Lock, Read, Write, is_of}
+use Rattle.band_balance.specs.Object.{Mode, Permit, is_of}
 use Rattle.band_balance.proofs.Held.{by_bool}
 use Rattle.band_balance.proofs.Rules.{bytes_told}
 use Rattle.band_rules.specs.Plan.{same_mode}
+use Rattle.band_rules.proofs.Planned.{modes_same}
 use Rattle.band_sem.specs.declared.errors.ReleaseError.{ReleaseError}
 use Rattle.band_sem.specs.declared.errors.ReleaseError.TheVariants.{Overflow}
 use Rattle.band_sem.specs.declared.errors.ReduceError.{ReduceError}
@@ -24,10 +25,8 @@ use Rattle.band_player.specs.Token.{TokenState, thing_of, IsHeld}
 use Rattle.band_player.specs.Token as tokens
 
 pub object_from : (found : Option Thing) (place : ℕ) → object_place found ≡ Ok place → found ≡ Some (things.Object place)
-object_from None place is = cc
 object_from (Some (things.Object other)) place is = let same : other ≡ place = cc in ap (λ p. Some (things.Object p)) same
-object_from (Some (things.Request other request)) place is = cc
-object_from (Some (things.Holding holding)) place is = cc
+object_from found place is = cc
 
 pub offering_as : (mode : Mode) (kept : List ObjectState) (found : Result ℕ Refusal) (place : ℕ) (object : ObjectState) (b : Bool) → found ≡ Ok place → slice_get kept place ≡ Some object
     → is_of object.kind mode ≡ b
@@ -47,13 +46,6 @@ offered mode kept found place is = go (object_place found) refl is
         test true offers is = let same : other ≡ place = cc in subst (λ p. (found ≡ Some (things.Object p)) × (offers_at mode (slice_get kept p) ≡ true)) same (object_from found other at, offers)
         test false offers is = cc
 
-modes_one : (mode other : Mode) → same_mode mode other ≡ true → other ≡ mode
-modes_one Permit Permit same = refl
-modes_one Lock Lock same = refl
-modes_one Read Read same = refl
-modes_one Write Write same = refl
-modes_one mode other same = cc
-
 pub held_from : (mode : Mode) (found : Option Thing) (holding : HoldingState) → held_as mode found ≡ Ok holding → (found ≡ Some (things.Holding holding)) × (holding.mode ≡ mode)
 held_from mode None holding is = cc
 held_from mode (Some (things.Object place)) holding is = cc
@@ -63,7 +55,7 @@ held_from mode (Some (things.Holding other)) holding is = test (same_mode mode o
     test : (b : Bool) → same_mode mode other.mode ≡ b → cond b (Ok other) (Err Kind) ≡ Ok holding → (Some (things.Holding other) ≡ Some (things.Holding holding)) × (holding.mode ≡ mode)
     test true same is =
         let one : other ≡ holding = cc in
-        (ap (λ h. Some (things.Holding h)) one, subst (λ (h : HoldingState). h.mode ≡ mode) one (modes_one mode other.mode same))
+        (ap (λ h. Some (things.Holding h)) one, subst (λ (h : HoldingState). h.mode ≡ mode) one (sym (modes_same mode other.mode same)))
     test false same is = cc
 
 -- what is held in a mode is a token that is held in it
@@ -83,10 +75,8 @@ held_ok mode token ok = go (held_as mode (Some (thing_of token))) refl ok
     go (Err refusal) is ok = cc
 
 pub object_is : (found : Option Thing) → is_object found ≡ true → (place : ℕ) × (found ≡ Some (things.Object place))
-object_is None is = cc
 object_is (Some (things.Object place)) is = (place, refl)
-object_is (Some (things.Request place request)) is = cc
-object_is (Some (things.Holding holding)) is = cc
+object_is found is = cc
 
 -- two permits of one object, under two names
 pub record CanMerge (kept spent : List ℕ) (first_found second_found : Option Thing) (place : ℕ) : Type 0 where

@@ -1,16 +1,15 @@
 -- What a poll of a token says, and what fits a token.
-use Rattle.std.proofs.Common.{◌≡◌, ℕ, true, Option, Some, None, IsOk, Result, Ok, Err, refl, sym, ap, subst, ◌∙◌, ◌<◌, List, length, arith}
+use Rattle.std.proofs.Common.{◌≡◌, ℕ, Option, Some, None, Ok, Err, refl, sym, ap, subst, ◌∙◌, ◌<◌, List, length, arith}
 use Rattle.std.specs.List.{slice_get}
 use Rattle.std.specs.Prelude.{slice_index_or as get_or}
 use Rattle.std.proofs.lemmas.Option.{same_Some, slice_get_read, slice_get_within}
-use Rattle.band_base.specs.declared.poll.Poll.{Poll}
 use Rattle.band_base.specs.declared.poll.Poll.TheVariants as polls
 use Rattle.band_base.specs.declared.poll.PollError.{PollError}
 use Rattle.band_base.specs.declared.poll.PollError.TheVariants as errors
 use Rattle.band_sem.specs.Permit.{Permit as Held}
 use Rattle.band_sem.specs.Request.{Request as Asked, Stage, NotPolled, Joined, Finished}
 use Rattle.band_sem.specs.Semaphore.{SemaphoreState, PollsAt, finished}
-use Rattle.band_player.specs.Moves.{FitsRequest, FitsHolding, FitsToken, CanPoll, WasPolled, IsFit, IsJoined, IsOpen}
+use Rattle.band_player.specs.Moves.{FitsToken, CanPoll, WasPolled, IsFit, IsJoined, IsOpen}
 use Rattle.band_player.specs.Objects.{ObjectState}
 use Rattle.band_player.specs.Thing.{place_at}
 use Rattle.band_player.specs.Token.{TokenState, Request, Holding, thing_of}

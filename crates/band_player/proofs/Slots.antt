@@ -1,5 +1,5 @@
 -- The slots of a line under the names that the table has for them: each name has one slot.
-use Rattle.std.proofs.Common.{◌≡◌, ℕ, ◌==◌, true, false, List, [], ◌∷◌, map, Some, None, refl, sym, ap, ◌∙◌, subst, eqb-true}
+use Rattle.std.proofs.Common.{◌≡◌, ℕ, ◌==◌, true, false, List, [], ◌∷◌, ◌++◌, map, Some, None, refl, sym, ap, ◌∙◌, subst, eqb-true}
 use Rattle.std.specs.List.{AllByRecursion}
 use Rattle.std.specs.Str.{bytes_eq}
 use Rattle.std.proofs.lemmas.Bool.{cond-true, cond-false, false≢true}
@@ -9,8 +9,9 @@ use Rattle.band_balance.specs.Line.{Entry, entry_named, without, renamed}
 use Rattle.band_balance.specs.Rule.{has_name as is_tag}
 use Rattle.band_balance.proofs.Distinct.{tests_agree}
 use Rattle.band_balance.proofs.Fronts.{unmapped}
-use Rattle.band_balance.proofs.Held.{by_bool}
-use Rattle.band_balance.proofs.Requests.{all-found, all-weaker, none-from_all}
+use Rattle.band_balance.proofs.Held.{by_bool, other_way}
+use Rattle.band_balance.proofs.Orderly.{pairwise-push}
+use Rattle.band_balance.proofs.Requests.{all-found, all-weaker, all-not_named, none-from_all}
 use Rattle.band_balance.proofs.Rules.{bytes_told}
 use Rattle.band_rules.specs.State.{Tag}
 use Rattle.band_sem.specs.Semaphore.{is_slot}
@@ -18,6 +19,13 @@ use Rattle.band_sem.specs.Semaphore.{is_slot}
 -- the names of entries differ
 abbrev pub NamedOnce : List (Entry Tag) → Type 0
 NamedOnce entries = Pairwise (λ (a b : Entry Tag). bytes_eq a.name.name b.name.name ≡ false) entries
+
+-- who has a new name comes last
+pub once_push : (entries : List (Entry Tag)) (new : Entry Tag) → NamedOnce entries → entry_named (is_tag bytes_eq new.name.name) entries ≡ None → NamedOnce (entries ++ new ∷ [])
+once_push entries new once none =
+    pairwise-push _ entries new once
+    (all-weaker _ (λ (e : Entry Tag). bytes_eq e.name.name new.name.name ≡ false) (λ e apart. other_way bytes_eq bytes_told new.name.name e.name.name apart) entries
+    (all-not_named (is_tag bytes_eq new.name.name) entries none))
 
 -- who has a name isn't there once it left
 pub gone_without : (name : List ℕ) (entries : List (Entry Tag)) → NamedOnce entries → entry_named (is_tag bytes_eq name) (without (is_tag bytes_eq name) entries) ≡ None

@@ -63,6 +63,10 @@ pub if_done : {A E P : Type 0} {Q : A → Type 0} (r : Result A E) → OnOk r P 
 if_done (Ok x) p f = f x p
 if_done (Err e) p f = tt
 
+pub if_err : {A E P Q : Type 0} (r : Result A E) → OnErr r P → (P → Q) → OnErr r Q
+if_err (Ok x) p f = tt
+if_err (Err e) p f = f p
+
 pub on_ok : {A E P Q : Type 0} (r : Result A E) → OnOk r P → (P → Q) → OnOk r Q
 on_ok (Ok x) p f = f p
 on_ok (Err e) p f = tt
@@ -141,8 +145,10 @@ module _ (names : Names) (k : List ℕ) where
     apart_added (Ok x) free added same = apart_set added.0 free added.1
     apart_added (Err e) free added same = apart_kept same
 
-    pub tokens_kept : (thing : Option Thing) → thing_at names k ≡ thing → IsUnchanged names.tokens tokens → Updated (thing_at names) (table_of names.objects tokens) k thing
-    tokens_kept thing is same = record {
-      here = λ q same_name. ap (thing_from (at names.objects q)) (at_same names.tokens tokens same q) ∙ ap (thing_at names) (sym (bytes_told.equal k q same_name)) ∙ is;
-      others = λ q other. ap (thing_from (at names.objects q)) (at_same names.tokens tokens same q);
-    }
+    -- a token that was lent, and is given back as another
+    pub token_filled : (token left now : TokenState) → at names.tokens k ≡ Some token → left ≡ now → Sets names.tokens tokens k (Some left)
+        → Updated (thing_at names) (table_of names.objects tokens) k (Some (thing_of now))
+    token_filled token left now was is sets = token_set (Some now) (no_object token was) (subst (λ (t : TokenState). Sets names.tokens tokens k (Some t)) is sets)
+
+    pub apart_filled : (token left : TokenState) → at names.tokens k ≡ Some token → Sets names.tokens tokens k (Some left) → AreApart names.objects tokens
+    apart_filled token left was sets = apart_set (Some left) (no_object token was) sets

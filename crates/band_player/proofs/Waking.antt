@@ -1,11 +1,8 @@
 -- A waker that is taken changes nothing else.
-use Rattle.std.proofs.Common.{◌≡◌, ℕ, ◌<◌, ◌==◌, List, Option, Some, None, sym, ap, ◌∙◌, subst, eqb-true, eq-eqb}
+use Rattle.std.proofs.Common.{◌≡◌, ℕ, ◌<◌, List, Option, Some, None, sym, ap, ◌∙◌, subst}
 use Rattle.std.specs.List.{slice_get, slice_set}
-use Rattle.std.proofs.lemmas.Bool.{false≢true}
 use Rattle.std.proofs.lemmas.List.{length-set}
-use Rattle.std.proofs.lemmas.Option.{same_Some}
 use Rattle.band_balance.specs.Line.{Line, AreAlike, entry_named, requests, rename}
-use Rattle.band_balance.proofs.Held.{by_bool}
 use Rattle.band_base.specs.declared.waker.Waker.{Waker}
 use Rattle.band_rules.specs.State.{State, Named}
 use Rattle.band_sem.specs.Semaphore.{is_slot}
@@ -16,7 +13,7 @@ use Rattle.band_player.specs.Table.{quiet, StandsAt}
 use Rattle.band_player.specs.Thing.{place_at}
 use Rattle.band_player.specs.declared.table.Table.{Table}
 use Rattle.band_player.proofs.Landing.{slots_kept}
-use Rattle.band_player.proofs.Lists.{at_set_same, at_set_other}
+use Rattle.band_player.proofs.Lists.{each_replaced, at_set_other}
 
 -- the same but for the wakes
 record SameQuiet (old new : ObjectState) : Type 0 where
@@ -50,16 +47,8 @@ module _ (old new : Table) (object object' : ObjectState) (result : Option Waker
   each_after : (place : ℕ) (kept : ObjectState) (named : Named) → slice_get (slice_set old.objects.items old.last object') place ≡ Some kept → slice_get state place ≡ Some named
       → StandsAt (stands.tags place) (thing_at old.names) place kept named
   each_after place kept named at there_named =
-      by_bool (old.last == place)
-      (λ h.
-      let k = eqb-true old.last place h in
-      let is : object' ≡ kept = same_Some object' kept (sym (at_set_same old.objects.items old.last object object' there) ∙ ap (slice_get (slice_set old.objects.items old.last object')) k ∙ at) in
-      subst (λ (o : ObjectState). StandsAt (stands.tags place) (thing_at old.names) place o named) is
-      (subst (λ (p : ℕ). StandsAt (stands.tags p) (thing_at old.names) p object' named) k
-      (stands_at named (stands.under.each old.last object named there (ap (slice_get state) k ∙ there_named)))))
-      (λ h.
-      stands.under.each place kept named
-      (sym (at_set_other old.objects.items old.last place object' (λ k. false≢true (sym h ∙ eq-eqb old.last place (sym k)))) ∙ at) there_named)
+      each_replaced (λ p o. (n : Named) → slice_get state p ≡ Some n → StandsAt (stands.tags p) (thing_at old.names) p o n) old.objects.items old.last object object' there
+      (λ n is. stands_at n (stands.under.each old.last object n there is)) (λ p o apart at_other n is. stands.under.each p o n at_other is) place kept at named there_named
 
   pub still_stands : StandsFor new state
   still_stands = record {

@@ -1,10 +1,14 @@
 -- What the player keeps, and what it stands for.
-use Rattle.std.specs.Prelude.{◌≡◌, ◌≢◌, ℕ, List, [], Option, Some, None, slice_get}
+use Rattle.std.specs.Prelude.{◌≡◌, ◌≢◌, ◌<◌, ℕ, List, [], length, Option, Some, None, Result, Ok, slice_get}
+use Rattle.std.specs.Prelude.{slice_index_or as get_or}
+use Rattle.band_balance.specs.Object.{Mode}
+use Rattle.band_base.specs.declared.refusal.Refusal.{Refusal}
 use Rattle.band_rules.specs.declared.reply.Reply.{Reply}
 use Rattle.band_rules.specs.declared.reply.Reply.TheVariants as replies
 use Rattle.band_rules.specs.State.{State, Tag}
 use Rattle.band_rules.specs.Step.{step}
 use Rattle.band_script.specs.declared.call.Call.{Call}
+use Rattle.band_player.specs.Moves.{object_place, offering}
 use Rattle.band_player.specs.Names.{thing_at}
 use Rattle.band_player.specs.Objects.{ObjectState}
 use Rattle.band_player.specs.Table.{StandsUnder}
@@ -56,3 +60,26 @@ Works call table = (state : State) → StandsFor table state → DidWork (step c
 -- every state that was stood for still is
 abbrev pub Stays : Table → Table → Type 0
 Stays old new = (state : State) → StandsFor old state → StandsFor new state
+
+-- a call was answered: the table follows it, and stands for some state
+pub record Answered (call : Call) (old : Table) (reply : Reply) (new : Table) : Type 0 where
+  pub follows : Follows call old reply new
+  pub sound : IsSound new
+
+-- memory was wanting: the table stands for what it did, no waker is left, and the call would have done its work
+pub record Wanting (call : Call) (old new : Table) : Type 0 where
+  pub stays : Stays old new
+  pub quiet : wakes_left new ≡ []
+  pub works : Works call old
+  pub sound : IsSound new
+
+-- the place of the object with a name, of which this can be asked, or why there is none
+abbrev pub offering_at : Mode → Table → List ℕ → Result ℕ Refusal
+offering_at mode table name = offering mode table.objects.items (object_place (thing_at table.names name))
+
+-- the object is there, and is what is read at its place
+pub record Offered (mode : Mode) (table : Table) (name : List ℕ) (place : ℕ) : Type 0 where
+  pub is : offering_at mode table name ≡ Ok place
+  pub within : place < length table.objects.items
+  pub there : (object : ObjectState) → object ≡ get_or table.objects.items place object
+      → slice_get table.objects.items place ≡ Some object

@@ -2,7 +2,7 @@
 -- of what it asks for.
 use Rattle.std.specs.Prelude.{◌≡◌, ℕ, Option}
 use Rattle.band_balance.specs.Line.{Line}
-use Rattle.band_balance.specs.Object.{Kind, Semaphore, Mutex, ReaderWriter, Mode, Permit, Lock, Read, Write}
+use Rattle.band_balance.specs.Object.{Kind, Semaphore, Mutex, ReaderWriter, Mode}
 use Rattle.band_base.specs.declared.waker.Waker.{Waker}
 use Rattle.band_sem.specs.Semaphore.{SemaphoreState, IsLike, IsLawful, TakesWake}
 use Rattle.band_sem.specs.Permit.{Permit as Held}
@@ -23,7 +23,13 @@ pub record ObjectState : Type 0 where
 
 -- an object of a kind with the figures of a semaphore
 abbrev pub of_kind : Kind → SemaphoreState → ObjectState
-of_kind kind sem = record { kind = kind; number = sem.number; line = sem.line; held = sem.held; debts = sem.debts }
+of_kind kind sem = record {
+  kind = kind;
+  number = sem.number;
+  line = sem.line;
+  held = sem.held;
+  debts = sem.debts;
+}
 
 abbrev pub state_of : Primitive → ObjectState
 state_of (objects.Semaphore sem) = of_kind Semaphore sem
@@ -32,7 +38,12 @@ state_of (objects.ReaderWriter lock) = of_kind (ReaderWriter lock.max) lock.shar
 
 -- the figures alone
 abbrev pub shares_of : ObjectState → SemaphoreState
-shares_of object = record { number = object.number; line = object.line; held = object.held; debts = object.debts }
+shares_of object = record {
+  number = object.number;
+  line = object.line;
+  held = object.held;
+  debts = object.debts;
+}
 
 -- what a semaphore would become, with the kind that it has
 abbrev pub on_semaphore : (SemaphoreState → SemaphoreState) → ObjectState → ObjectState

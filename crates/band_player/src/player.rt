@@ -2,7 +2,6 @@
 ghost use Rattle.std.proofs.Props.{props};
 ghost use Rattle.band_player.specs.Kept.{IsSound};
 
-use crate::object::{New, Want};
 use crate::table::Table;
 use crate::{Call, Reply};
 use band_base::{Steps, Waker};
@@ -67,38 +66,7 @@ impl Player {
         ensures lawful { KeepsLaws self.new }
         ensures visits { Pays (load_of self.old) (load_of self.new) steps.old steps.new }
     {
-        match call {
-            Call::Sem { made, n } => self.table.make(self.alloc, made, New::Semaphore(n)),
-            Call::Mutex { made } => self.table.make(self.alloc, made, New::Mutex),
-            Call::Rw { made, n } => self.table.make(self.alloc, made, New::ReaderWriter(n)),
-            Call::Ask { made, of, n, waker } => {
-                self.table
-                    .ask(Want::Permits(n), made, &of, Waker(waker), steps)
-            }
-            Call::Lock { made, of, waker } => {
-                self.table.ask(Want::Lock, made, &of, Waker(waker), steps)
-            }
-            Call::Read { made, of, waker } => {
-                self.table.ask(Want::Read, made, &of, Waker(waker), steps)
-            }
-            Call::Write { made, of, waker } => {
-                self.table.ask(Want::Write, made, &of, Waker(waker), steps)
-            }
-            Call::Poll { name, waker } => Ok(self.table.poll(&name, Waker(waker), steps)),
-            Call::Drop { name } => Ok(self.table.drop_name(&name, steps)),
-            Call::Try { made, of, n } => self.table.try_for(Want::Permits(n), made, &of),
-            Call::TryLock { made, of } => self.table.try_for(Want::Lock, made, &of),
-            Call::TryRead { made, of } => self.table.try_for(Want::Read, made, &of),
-            Call::TryWrite { made, of } => self.table.try_for(Want::Write, made, &of),
-            Call::Release { of, n } => Ok(self.table.release(&of, n, steps)),
-            Call::Reduce { of, n } => self.table.reduce(&of, n, steps),
-            Call::Drain { of, n } => Ok(self.table.drain(&of, n)),
-            Call::Downgrade { name } => Ok(self.table.downgrade(&name, steps)),
-            Call::Status { name } => Ok(self.table.status(&name)),
-            Call::Forget { name } => Ok(self.table.forget(&name)),
-            Call::Split { name, made, n } => self.table.split(&name, made, n),
-            Call::Merge { kept, spent } => Ok(self.table.merge(&kept, &spent)),
-        }
+        self.table.run(self.alloc, call, steps)
     }
 
     /// Takes the next waker of the last step, in the order of the grants.

@@ -1,16 +1,17 @@
 //! What the player keeps: the names, and the objects by place.
-ghost use Rattle.std.specs.Prelude.{◌≡◌, ◌∷◌, [], IfOk, OnErr, MatchOption};
+ghost use Rattle.std.specs.Prelude.{◌≡◌, ◌∷◌, [], IfOk, OnErr, Err, IsOk, MatchOption, MatchResult};
 ghost use Rattle.band_script.specs.Call.{ForReaders};
 ghost use Rattle.band_script.specs.declared.call.Call.TheVariants as calls;
 ghost use Rattle.band_player.specs.Names.{thing_at};
-ghost use Rattle.band_player.specs.Moves.{mode_of, object_place, offering, mergeable, make_call, ask_call, try_call};
+ghost use Rattle.band_player.specs.Moves.{mode_of, mergeable, make_call, ask_call, try_call};
 ghost use Rattle.band_sem.specs.Visits.{Pays};
+ghost use Rattle.band_player.specs.Player.{TakesNoMemory};
 ghost use Rattle.band_player.specs.Visits.{load};
-ghost use Rattle.band_player.specs.Kept.{StandsFor, IsSound, Follows, Works, Stays, wakes_left};
+ghost use Rattle.band_player.specs.Kept.{StandsFor, IsSound, Follows, Stays, Answered, Wanting, Offered, offering_at, wakes_left};
 
 use crate::names::Names;
 use crate::object::{New, Object, Want};
-use crate::{Name, Reply};
+use crate::{Call, Name, Reply};
 use band_base::{Steps, Waker};
 use band_sem::{ReduceError, Refusal};
 use std::alloc::{AllocError, Global};
@@ -55,8 +56,8 @@ impl Table {
     /// The place of the object with this name, of which this can be asked.
     fn object_for(&self, name: &Name, want: Want) -> Result<u64, Refusal>
         requires { IsSound self.now }
-        ensures { result ≡ offering (mode_of want) self.now.objects.items
-            (object_place (thing_at self.now.names name.now)) }
+        ensures { MatchResult result (λ place. Offered (mode_of want) self.now name.now place)
+            (λ refusal. offering_at (mode_of want) self.now name.now ≡ Err refusal) }
     {
         let place = self.names.object_at(name)?;
         if self.objects[place as usize].offers(want) {
@@ -71,10 +72,8 @@ impl Table {
         requires sound { IsSound self.old }
         requires quiet { wakes_left self.old ≡ [] }
         requires readers { ForReaders (make_call new made) }
-        ensures follows { IfOk result (λ reply. Follows (make_call new made) self.old reply self.new) }
-        ensures err { OnErr result (Stays self.old self.new × (wakes_left self.new ≡ [])) }
-        ensures works { OnErr result (Works (make_call new made) self.old) }
-        ensures sound { IsSound self.new }
+        ensures answered { IfOk result (λ reply. Answered (make_call new made) self.old reply self.new) }
+        ensures wanting { OnErr result (Wanting (make_call new made) self.old self.new) }
         ensures load { load self.new.objects.items ≡ load self.old.objects.items }
     {
         if self.names.is_live(&made) {
@@ -98,11 +97,9 @@ impl Table {
     ) -> Result<Reply, AllocError>
         requires sound { IsSound self.old }
         requires quiet { wakes_left self.old ≡ [] }
-        ensures follows { IfOk result (λ reply.
-            Follows (ask_call want made of.now waker.0) self.old reply self.new) }
-        ensures err { OnErr result (Stays self.old self.new × (wakes_left self.new ≡ [])) }
-        ensures works { OnErr result (Works (ask_call want made of.now waker.0) self.old) }
-        ensures sound { IsSound self.new }
+        ensures answered { IfOk result (λ reply.
+            Answered (ask_call want made of.now waker.0) self.old reply self.new) }
+        ensures wanting { OnErr result (Wanting (ask_call want made of.now waker.0) self.old self.new) }
         ensures visits { Pays (load self.old.objects.items) (load self.new.objects.items)
             steps.old steps.new }
     {
@@ -128,8 +125,7 @@ impl Table {
     ) -> Reply
         requires sound { IsSound self.old }
         requires quiet { wakes_left self.old ≡ [] }
-        ensures follows { Follows (calls.Poll name.now waker.0) self.old result self.new }
-        ensures sound { IsSound self.new }
+        ensures answered { Answered (calls.Poll name.now waker.0) self.old result self.new }
         ensures visits { Pays (load self.old.objects.items) (load self.new.objects.items)
             steps.old steps.new }
     {
@@ -156,8 +152,7 @@ impl Table {
     pub(crate) fn drop_name<L: Ledger>(&mut self, name: &Name, steps: &mut Steps<L>) -> Reply
         requires sound { IsSound self.old }
         requires quiet { wakes_left self.old ≡ [] }
-        ensures follows { Follows (calls.Drop name.now) self.old result self.new }
-        ensures sound { IsSound self.new }
+        ensures answered { Answered (calls.Drop name.now) self.old result self.new }
         ensures visits { Pays (load self.old.objects.items) (load self.new.objects.items)
             steps.old steps.new }
     {
@@ -177,10 +172,9 @@ impl Table {
     pub(crate) fn try_for(&mut self, want: Want, made: Name, of: &Name) -> Result<Reply, AllocError>
         requires sound { IsSound self.old }
         requires quiet { wakes_left self.old ≡ [] }
-        ensures follows { IfOk result (λ reply. Follows (try_call want made of.now) self.old reply self.new) }
-        ensures err { OnErr result (Stays self.old self.new × (wakes_left self.new ≡ [])) }
-        ensures works { OnErr result (Works (try_call want made of.now) self.old) }
-        ensures sound { IsSound self.new }
+        ensures answered { IfOk result (λ reply.
+            Answered (try_call want made of.now) self.old reply self.new) }
+        ensures wanting { OnErr result (Wanting (try_call want made of.now) self.old self.new) }
         ensures load { load self.new.objects.items ≡ load self.old.objects.items }
     {
         let place = match self.object_for(of, want) {
@@ -203,8 +197,7 @@ impl Table {
     pub(crate) fn release<L: Ledger>(&mut self, of: &Name, n: u64, steps: &mut Steps<L>) -> Reply
         requires sound { IsSound self.old }
         requires quiet { wakes_left self.old ≡ [] }
-        ensures follows { Follows (calls.Release of.now n) self.old result self.new }
-        ensures sound { IsSound self.new }
+        ensures answered { Answered (calls.Release of.now n) self.old result self.new }
         ensures visits { Pays (load self.old.objects.items) (load self.new.objects.items)
             steps.old steps.new }
     {
@@ -229,10 +222,8 @@ impl Table {
     ) -> Result<Reply, AllocError>
         requires sound { IsSound self.old }
         requires quiet { wakes_left self.old ≡ [] }
-        ensures follows { IfOk result (λ reply. Follows (calls.Reduce of.now n) self.old reply self.new) }
-        ensures err { OnErr result (Stays self.old self.new × (wakes_left self.new ≡ [])) }
-        ensures works { OnErr result (Works (calls.Reduce of.now n) self.old) }
-        ensures sound { IsSound self.new }
+        ensures answered { IfOk result (λ reply. Answered (calls.Reduce of.now n) self.old reply self.new) }
+        ensures wanting { OnErr result (Wanting (calls.Reduce of.now n) self.old self.new) }
         ensures visits { Pays (load self.old.objects.items) (load self.new.objects.items)
             steps.old steps.new }
     {
@@ -253,8 +244,7 @@ impl Table {
     pub(crate) fn drain(&mut self, of: &Name, n: u64) -> Reply
         requires sound { IsSound self.old }
         requires quiet { wakes_left self.old ≡ [] }
-        ensures follows { Follows (calls.Drain of.now n) self.old result self.new }
-        ensures sound { IsSound self.new }
+        ensures answered { Answered (calls.Drain of.now n) self.old result self.new }
         ensures load { load self.new.objects.items ≡ load self.old.objects.items }
     {
         let place = match self.object_for(of, Want::Permits(n)) {
@@ -290,8 +280,7 @@ impl Table {
     pub(crate) fn forget(&mut self, name: &Name) -> Reply
         requires sound { IsSound self.old }
         requires quiet { wakes_left self.old ≡ [] }
-        ensures follows { Follows (calls.Forget name.now) self.old result self.new }
-        ensures sound { IsSound self.new }
+        ensures answered { Answered (calls.Forget name.now) self.old result self.new }
         ensures load { load self.new.objects.items ≡ load self.old.objects.items }
     {
         if let Err(refusal) = self.names.permit_at(name) {
@@ -308,11 +297,9 @@ impl Table {
     pub(crate) fn split(&mut self, name: &Name, made: Name, n: u64) -> Result<Reply, AllocError>
         requires sound { IsSound self.old }
         requires quiet { wakes_left self.old ≡ [] }
-        ensures follows { IfOk result (λ reply.
-            Follows (calls.Split name.now made n) self.old reply self.new) }
-        ensures err { OnErr result (Stays self.old self.new × (wakes_left self.new ≡ [])) }
-        ensures works { OnErr result (Works (calls.Split name.now made n) self.old) }
-        ensures sound { IsSound self.new }
+        ensures answered { IfOk result (λ reply.
+            Answered (calls.Split name.now made n) self.old reply self.new) }
+        ensures wanting { OnErr result (Wanting (calls.Split name.now made n) self.old self.new) }
         ensures load { load self.new.objects.items ≡ load self.old.objects.items }
     {
         let permits = match self.names.permits(name) {
@@ -333,8 +320,7 @@ impl Table {
     pub(crate) fn merge(&mut self, kept: &Name, spent: &Name) -> Reply
         requires sound { IsSound self.old }
         requires quiet { wakes_left self.old ≡ [] }
-        ensures follows { Follows (calls.Merge kept.now spent.now) self.old result self.new }
-        ensures sound { IsSound self.new }
+        ensures answered { Answered (calls.Merge kept.now spent.now) self.old result self.new }
         ensures load { load self.new.objects.items ≡ load self.old.objects.items }
     {
         let place = match mergeable(&self.names, kept, spent) {
@@ -351,8 +337,7 @@ impl Table {
     pub(crate) fn downgrade<L: Ledger>(&mut self, name: &Name, steps: &mut Steps<L>) -> Reply
         requires sound { IsSound self.old }
         requires quiet { wakes_left self.old ≡ [] }
-        ensures follows { Follows (calls.Downgrade name.now) self.old result self.new }
-        ensures sound { IsSound self.new }
+        ensures answered { Answered (calls.Downgrade name.now) self.old result self.new }
         ensures visits { Pays (load self.old.objects.items) (load self.new.objects.items)
             steps.old steps.new }
     {
@@ -366,6 +351,55 @@ impl Table {
         boxed.fill(writer.downgrade_at(object, steps));
         self.last = place;
         Reply::Done
+    }
+
+    /// Does what a call says, and uses it up.
+    pub(crate) fn run<L: Ledger>(
+        &mut self,
+        alloc: Global,
+        call: Call,
+        steps: &mut Steps<L>,
+    ) -> Result<Reply, AllocError>
+        requires sound { IsSound self.old }
+        requires quiet { wakes_left self.old ≡ [] }
+        requires readers { ForReaders call }
+        ensures answered { IfOk result (λ reply. Answered call self.old reply self.new) }
+        ensures wanting { OnErr result (Wanting call self.old self.new) }
+        ensures succeeds { TakesNoMemory call → IsOk result }
+        ensures visits { Pays (load self.old.objects.items) (load self.new.objects.items)
+            steps.old steps.new }
+    {
+        match call {
+            Call::Sem { made, n } => self.make(alloc, made, New::Semaphore(n)),
+            Call::Mutex { made } => self.make(alloc, made, New::Mutex),
+            Call::Rw { made, n } => self.make(alloc, made, New::ReaderWriter(n)),
+            Call::Ask { made, of, n, waker } => {
+                self.ask(Want::Permits(n), made, &of, Waker(waker), steps)
+            }
+            Call::Lock { made, of, waker } => {
+                self.ask(Want::Lock, made, &of, Waker(waker), steps)
+            }
+            Call::Read { made, of, waker } => {
+                self.ask(Want::Read, made, &of, Waker(waker), steps)
+            }
+            Call::Write { made, of, waker } => {
+                self.ask(Want::Write, made, &of, Waker(waker), steps)
+            }
+            Call::Poll { name, waker } => Ok(self.poll(&name, Waker(waker), steps)),
+            Call::Drop { name } => Ok(self.drop_name(&name, steps)),
+            Call::Try { made, of, n } => self.try_for(Want::Permits(n), made, &of),
+            Call::TryLock { made, of } => self.try_for(Want::Lock, made, &of),
+            Call::TryRead { made, of } => self.try_for(Want::Read, made, &of),
+            Call::TryWrite { made, of } => self.try_for(Want::Write, made, &of),
+            Call::Release { of, n } => Ok(self.release(&of, n, steps)),
+            Call::Reduce { of, n } => self.reduce(&of, n, steps),
+            Call::Drain { of, n } => Ok(self.drain(&of, n)),
+            Call::Downgrade { name } => Ok(self.downgrade(&name, steps)),
+            Call::Status { name } => Ok(self.status(&name)),
+            Call::Forget { name } => Ok(self.forget(&name)),
+            Call::Split { name, made, n } => self.split(&name, made, n),
+            Call::Merge { kept, spent } => Ok(self.merge(&kept, &spent)),
+        }
     }
 
     /// Takes the oldest waker to wake of the object that was called last.

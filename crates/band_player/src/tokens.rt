@@ -41,7 +41,8 @@ impl Model for Tokens {
     ghost Value = { BTreeMap (List ℕ) TokenState };
 
     // A check finds no code of a map, so it is that of the map's type.
-    ghost coded = { (map_row name.the_row boxed.the_row heap.the_row ⟦<Name as Ord>⟧ ⟦<Global as Allocator>⟧).coded };
+    ghost coded = { (map_row name.the_row boxed.the_row heap.the_row
+        ⟦<Name as Ord>⟧ ⟦<Global as Allocator>⟧).coded };
 
     ghost view = { λ t. t.map };
 }

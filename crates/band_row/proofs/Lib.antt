@@ -3,3 +3,4 @@ pub mod Linked
 pub mod Moving
 pub mod Parts
 pub mod Serving
+pub mod Closing

@@ -15,9 +15,9 @@ use Rattle.band_line.specs.WaitList.{WaitListState, IsWaitList, IsUnlinked, IsWr
 use Rattle.band_partial.specs.PartialLine.{Node, NeedsSome, AreInOrder, request, debt, is_debt, share_of, requests_of, line_of}
 use Rattle.band_partial.specs.Moves.{is_request, with_waker, without_node, share_under}
 use Rattle.band_partial.proofs.Nodes.{by_nodes, have_nothing}
-use Rattle.band_row.specs.Row.{RowState, IsRow, HasRequest, is_slot, node_of, node_at, linked_nodes, granted_of, granted_size, part}
+use Rattle.band_row.specs.Row.{RowState, IsRow, IsInPlace, IsAnswered, NeedsAs, HasRequest, asked, is_slot, node_of, node_at, linked_nodes, granted_of, ended_of, granted_to, ended_of_node, size_by, part}
 use Rattle.band_row.specs.declared.wait_node.WaitNode.{WaitNode}
-use Rattle.band_row.proofs.Granted.{size_at, entry_at, granted-found, IsNamed, each-named, granted-distinct}
+use Rattle.band_row.proofs.Granted.{size_at, entry_at, entries-found, IsNamed, each-named, entries-distinct}
 
 -- Slots, of which each stands once.
 abbrev is_in : ℕ → List ℕ → Bool
@@ -276,8 +276,8 @@ module _ (list : WaitListState WaitNode) (id : ℕ) {node : WaitNode} (here : wa
       shows : share_of (node_of id node) ≡ node.size - node.needed
       shows = rw waits refl
 
-  granted_at : entry_named (is_slot id) (granted_of list) ≡ option_map (entry_at id) (granted_size (Some node))
-  granted_at = granted-found id list.nodes.slots ∙ ap (λ found. option_map (entry_at id) (granted_size found)) here
+  granted_at : entry_named (is_slot id) (granted_of list) ≡ option_map (entry_at id) (granted_to node)
+  granted_at = entries-found granted_to id list.nodes.slots ∙ ap (λ found. option_map (entry_at id) (size_by granted_to found)) here
 
   granted_none : 0 < node.needed → entry_named (is_slot id) (granted_of list) ≡ None
   granted_none some =
@@ -286,6 +286,11 @@ module _ (list : WaitListState WaitNode) (id : ℕ) {node : WaitNode} (here : wa
 
   granted_some : node.needed ≡ 0 → entry_named (is_slot id) (granted_of list) ≡ Some (entry_at id node.size)
   granted_some none = granted_at ∙ ap (λ needed. option_map (entry_at id) (cond (needed == 0) (Some node.size) None)) none
+
+  ended_as : {b : Bool} → node.ended ≡ b → entry_named (is_slot id) (ended_of list) ≡ option_map (entry_at id) (cond b (Some node.size) None)
+  ended_as is =
+      entries-found ended_of_node id list.nodes.slots ∙ ap (λ found. option_map (entry_at id) (size_by ended_of_node found)) here
+      ∙ ap (λ b. option_map (entry_at id) (cond b (Some node.size) None)) is
 
 -- Who is found among the requests.
 abbrev entry_for : Node → Entry ℕ
@@ -311,30 +316,70 @@ nobody_found : (row : RowState) (id : ℕ) → entry_named (is_slot id) (granted
     → entry_named (is_slot id) (requests (line_of (part row))) ≡ None
 nobody_found row id none nobody = requests_found row id ∙ ap₂ (λ found waits. option_or found (option_map entry_for waits)) none nobody
 
+asked_found : (row : RowState) (id : ℕ) → entry_named (is_slot id) (asked row)
+    ≡ option_or (entry_named (is_slot id) (ended_of row.list)) (entry_named (is_slot id) (requests (line_of (part row))))
+asked_found row id = entry_named-append (is_slot id) (ended_of row.list) (requests (line_of (part row)))
+
 -- a request that was granted
 pub record StandsGranted (row : RowState) (id : ℕ) (node : WaitNode) : Type 0 where
   pub none_needed : node.needed ≡ 0
   pub no_waker : node.waker ≡ None
+  pub not_ended : node.ended ≡ false
   pub not_linked : is_linked id row.list ≡ false
   pub granted : entry_named (is_slot id) (granted_of row.list) ≡ Some (entry_at id node.size)
+  pub none_ended : entry_named (is_slot id) (ended_of row.list) ≡ None
 
 -- a request that waits
 pub record StandsWaiting (row : RowState) (id : ℕ) (node : WaitNode) : Type 0 where
   pub waker : Waker
   pub waits : node.waker ≡ Some waker
+  pub not_ended : node.ended ≡ false
   pub some : 0 < node.needed
   pub fits : node.needed ≤ node.size
   pub linked : is_linked id row.list ≡ true
   pub not_granted : entry_named (is_slot id) (granted_of row.list) ≡ None
+  pub none_ended : entry_named (is_slot id) (ended_of row.list) ≡ None
+
+-- a request that was ended
+pub record StandsEnded (row : RowState) (id : ℕ) (node : WaitNode) : Type 0 where
+  pub no_waker : node.waker ≡ None
+  pub is_ended : node.ended ≡ true
+  pub some : 0 < node.needed
+  pub not_linked : is_linked id row.list ≡ false
+  pub ended : entry_named (is_slot id) (ended_of row.list) ≡ Some (entry_at id node.size)
+
+-- one of the three
+pub data Stands (row : RowState) (id : ℕ) (node : WaitNode) : Type 0 where
+  was_granted : StandsGranted row id node → Stands row id node
+  waits : StandsWaiting row id node → Stands row id node
+  was_ended : StandsEnded row id node → Stands row id node
 
 module _ (row : RowState) (sound : IsRow row) (id : ℕ) where
   module _ {node : WaitNode} (here : waiter_at id row.list ≡ Some node) where
-    granted_stands : is_linked id row.list ≡ false → StandsGranted row id node
-    granted_stands out =
-        let was = sound.granted id node here out in
-        record { none_needed = was.0; no_waker = was.1; not_linked = out; granted = granted_some row.list id here was.0 }
+    in_place : {b : Bool} → is_linked id row.list ≡ b → IsInPlace b node
+    in_place is = subst (λ b. IsInPlace b node) is (sound.each id node here)
 
-    linked_stands : HasRequest id (part row) → is_linked id row.list ≡ true → StandsWaiting row id node
+    detached_stands : is_linked id row.list ≡ false → Stands row id node
+    detached_stands out = by_flag node.ended refl (in_place out).needs
+      where
+        by_flag : (b : Bool) → node.ended ≡ b → NeedsAs b node.needed → Stands row id node
+        by_flag true ended needs = was_ended (record {
+          no_waker = (in_place out).no_waker;
+          is_ended = ended;
+          some = needs;
+          not_linked = out;
+          ended = ended_as row.list id here ended;
+        })
+        by_flag false open_still none = was_granted (record {
+          none_needed = none;
+          no_waker = (in_place out).no_waker;
+          not_ended = open_still;
+          not_linked = out;
+          granted = granted_some row.list id here none;
+          none_ended = ended_as row.list id here open_still;
+        })
+
+    linked_stands : HasRequest id row → is_linked id row.list ≡ true → StandsWaiting row id node
     linked_stands asks linked = by_waker node.waker refl
       where
         needs : (0 < node.needed) × (node.needed ≤ node.size)
@@ -343,45 +388,69 @@ module _ (row : RowState) (sound : IsRow row) (id : ℕ) where
         none : entry_named (is_slot id) (granted_of row.list) ≡ None
         none = granted_none row.list id here needs.0
 
+        none_ended : entry_named (is_slot id) (ended_of row.list) ≡ None
+        none_ended = ended_as row.list id here (in_place linked)
+
         by_waker : (waker : Option Waker) → node.waker ≡ waker → StandsWaiting row id node
-        by_waker (Some waker) waits = record { waker = waker; waits = waits; some = needs.0; fits = needs.1; linked = linked; not_granted = none }
+        by_waker (Some waker) calls = record {
+          waker = waker;
+          waits = calls;
+          not_ended = in_place linked;
+          some = needs.0;
+          fits = needs.1;
+          linked = linked;
+          not_granted = none;
+          none_ended = none_ended;
+        }
         by_waker None owed =
             let debt_here : is_debt (node_at row.list id) ≡ true = rw (node_at-is row.list id here) (rw owed refl) in
             let nobody = nobody_found row id none (found_debt (itself row.list id) debt_here row.list.linked) in
-            let never : true ≡ false = sym asks ∙ ap is_some nobody in
+            let never : true ≡ false = sym asks ∙ ap is_some (asked_found row id ∙ ap₂ (λ (x y : Option (Entry ℕ)). option_or x y) none_ended nobody) in
             absurd (cc)
 
-    -- a request that has this slot was granted or waits
-    pub request-stands : HasRequest id (part row) → StandsGranted row id node ⊎ StandsWaiting row id node
+    -- a request that has this slot was granted, waits or was ended
+    pub request-stands : HasRequest id row → Stands row id node
     request-stands asks = by_link (is_linked id row.list) refl
       where
-        by_link : (b : Bool) → is_linked id row.list ≡ b → StandsGranted row id node ⊎ StandsWaiting row id node
-        by_link true linked = inr (linked_stands asks linked)
-        by_link false out = inl (granted_stands out)
+        by_link : (b : Bool) → is_linked id row.list ≡ b → Stands row id node
+        by_link true linked = waits (linked_stands asks linked)
+        by_link false out = detached_stands out
 
     -- and it is found under its size
-    pub request-size : HasRequest id (part row) → entry_named (is_slot id) (requests (line_of (part row))) ≡ Some (entry_at id node.size)
-    request-size asks =
-        elim (request-stands asks) [
-          | inl stands ↦ requests_found row id ∙ ap (λ found. option_or found (option_map entry_for (find (is_request (is_slot id)) (linked_nodes row.list)))) stands.granted
-          | inr stands ↦
-              requests_found row id
-              ∙ ap₂ (λ found waiting. option_or found (option_map entry_for waiting)) stands.not_granted (linked-request row.list id here stands.linked stands.waits)
-        ]
+    pub request-size : HasRequest id row → entry_named (is_slot id) (asked row) ≡ Some (entry_at id node.size)
+    request-size asks = by_stand (request-stands asks)
+      where
+        unended : entry_named (is_slot id) (ended_of row.list) ≡ None
+            → entry_named (is_slot id) (requests (line_of (part row))) ≡ Some (entry_at id node.size) → entry_named (is_slot id) (asked row) ≡ Some (entry_at id node.size)
+        unended none found = asked_found row id ∙ ap₂ (λ (x y : Option (Entry ℕ)). option_or x y) none found
+
+        by_stand : Stands row id node → entry_named (is_slot id) (asked row) ≡ Some (entry_at id node.size)
+        by_stand (was_granted stands) =
+            unended stands.none_ended
+            (requests_found row id ∙ ap (λ found. option_or found (option_map entry_for (find (is_request (is_slot id)) (linked_nodes row.list)))) stands.granted)
+        by_stand (waits stands) =
+            unended stands.none_ended
+            (requests_found row id
+            ∙ ap₂ (λ found waiting. option_or found (option_map entry_for waiting)) stands.not_granted (linked-request row.list id here stands.linked stands.waits))
+        by_stand (was_ended stands) =
+            asked_found row id ∙ ap (λ found. option_or found (entry_named (is_slot id) (requests (line_of (part row))))) stands.ended
 
   -- nothing has the slot, so no request has it
-  pub request-none : waiter_at id row.list ≡ None → entry_named (is_slot id) (requests (line_of (part row))) ≡ None
+  pub request-none : waiter_at id row.list ≡ None → entry_named (is_slot id) (asked row) ≡ None
   request-none vacant =
-      nobody_found row id
-      (granted-found id row.list.nodes.slots ∙ ap (λ found. option_map (entry_at id) (granted_size found)) vacant)
-      (found_out (itself row.list id) row.list.linked (by_link (is_linked id row.list) refl))
+      asked_found row id
+      ∙ ap₂ (λ (x y : Option (Entry ℕ)). option_or x y)
+      (entries-found ended_of_node id row.list.nodes.slots ∙ ap (λ found. option_map (entry_at id) (size_by ended_of_node found)) vacant)
+      (nobody_found row id
+      (entries-found granted_to id row.list.nodes.slots ∙ ap (λ found. option_map (entry_at id) (size_by granted_to found)) vacant)
+      (found_out (itself row.list id) row.list.linked (by_link (is_linked id row.list) refl)))
     where
       by_link : (b : Bool) → is_linked id row.list ≡ b → b ≡ false
       by_link false out = refl
       by_link true linked = let never : true ≡ false = sym (sound.list.here id linked) ∙ ap is_some vacant in cc
 
   -- what has the slot of a request
-  pub request-here : HasRequest id (part row) → IsSome (waiter_at id row.list)
+  pub request-here : HasRequest id row → IsSome (waiter_at id row.list)
   request-here asks = by_found (waiter_at id row.list) refl
     where
       by_found : (found : Option WaitNode) → waiter_at id row.list ≡ found → is_some found ≡ true
@@ -417,31 +486,91 @@ once_both [] names first second apart = second
 once_both (e ∷ es) names first second apart =
     (all_of_both (λ y. nat_eq e.name y ≡ false) (map (λ e. e.name) es) names first.0 apart.0, once_both es names first.1 second apart.1)
 
--- each slot is one request's
-pub requests-distinct : (row : RowState) → IsRow row → IsDistinct nat_eq (map (λ e. e.name) (requests (line_of (part row))))
-requests-distinct row sound =
-    subst (IsDistinct nat_eq) (sym (map-append (λ e. e.name) (granted_of row.list) (map entry_of (requests_of (linked_nodes row.list)))))
-    (once_both (granted_of row.list) (names_waiting (node_at row.list) row.list.linked)
-    (granted-distinct 0 row.list.nodes.slots)
-    (once_waiting (node_at row.list) (node_at-named row.list) row.list.linked sound.list.once)
-    (all-weaker (IsNamed 0 row.list.nodes.slots) (λ e. IsOff e.name (names_waiting (node_at row.list) row.list.linked)) apart (granted_of row.list) (each-named 0 row.list.nodes.slots)))
-  where
-    not_linked : (e : Entry ℕ) → IsNamed 0 row.list.nodes.slots e → (b : Bool) → is_linked e.name row.list ≡ b → b ≡ false
-    not_linked e was false out = refl
-    not_linked e was true linked = by_found (waiter_at e.name row.list) refl (sound.list.here e.name linked)
-      where
-        by_found : (found : Option WaitNode) → waiter_at e.name row.list ≡ found → is_some found ≡ true → true ≡ false
-        by_found None vacant here = cc
-        by_found (Some node) here _ =
-            let needs = linked-needs row.list e.name here sound.in_order linked in
-            let some : 0 < node.needed = needs.0 in
-            let more : (node.needed == 0) ≡ false = grind (arith, nat_tests) in
-            let none : granted_size (Some node) ≡ None = ap (λ b. cond b (Some node.size) None) more in
-            let size : size_at e.name row.list.nodes.slots ≡ Some e.size = was.size e.name (omega arith) in
-            let never : Some e.size ≡ None = sym size ∙ ap granted_size here ∙ none in
-            cc
+-- An entry and what is at its slot.
+module _ (row : RowState) (sound : IsRow row) where
+  -- what is at a slot that has a size
+  at_slot : (of : WaitNode → Option ℕ) (P : Type 0) (e : Entry ℕ) → IsNamed of 0 row.list.nodes.slots e
+      → ((node : WaitNode) → waiter_at e.name row.list ≡ Some node → of node ≡ Some e.size → P) → P
+  at_slot of P e was then = by_found (waiter_at e.name row.list) refl
+    where
+      size : size_at of e.name row.list.nodes.slots ≡ Some e.size
+      size = was.size e.name (omega arith)
 
-    apart : (e : Entry ℕ) → IsNamed 0 row.list.nodes.slots e → IsOff e.name (names_waiting (node_at row.list) row.list.linked)
-    apart e was =
-        each_waiting (node_at row.list) (node_at-named row.list) (λ y. nat_eq e.name y ≡ false) row.list.linked
-        (is_off e.name row.list.linked (not_linked e was (is_linked e.name row.list) refl))
+      by_found : (found : Option WaitNode) → waiter_at e.name row.list ≡ found → P
+      by_found None vacant = let never : None ≡ Some e.size = sym (ap (size_by of) vacant) ∙ size in absurd (cc)
+      by_found (Some node) here = then node here (sym (ap (size_by of) here) ∙ size)
+
+  off_linked : (of : WaitNode → Option ℕ) → ((node : WaitNode) (size : ℕ) → of node ≡ Some size → 0 < node.needed → node.ended ≡ false → ⊥)
+      → (e : Entry ℕ) → IsNamed of 0 row.list.nodes.slots e → IsOff e.name (names_waiting (node_at row.list) row.list.linked)
+  off_linked of differs e was =
+      each_waiting (node_at row.list) (node_at-named row.list) (λ y. nat_eq e.name y ≡ false) row.list.linked
+      (is_off e.name row.list.linked (by_link (is_linked e.name row.list) refl))
+    where
+      by_link : (b : Bool) → is_linked e.name row.list ≡ b → b ≡ false
+      by_link false out = refl
+      by_link true linked =
+          at_slot of (true ≡ false) e was
+          (λ node here size.
+          absurd (differs node e.size size (linked-needs row.list e.name here sound.in_order linked).0 (subst (λ b. IsInPlace b node) linked (sound.each e.name node here))))
+
+  granted_needs_none : (node : WaitNode) (size : ℕ) → granted_to node ≡ Some size → 0 < node.needed → ⊥
+  granted_needs_none node size is some =
+      let more : (node.needed == 0) ≡ false = grind (arith, nat_tests) in
+      let never : None ≡ Some size = sym (ap (λ b. cond b (Some node.size) None) more) ∙ is in
+      absurd (cc)
+
+  is_ended : (node : WaitNode) (size : ℕ) → ended_of_node node ≡ Some size → node.ended ≡ false → ⊥
+  is_ended node size is open_still = let never : None ≡ Some size = sym (ap (λ b. cond b (Some node.size) None) open_still) ∙ is in absurd (cc)
+
+  -- one that was ended was not granted
+  ended_needs : (node : WaitNode) (slot size : ℕ) → waiter_at slot row.list ≡ Some node → ended_of_node node ≡ Some size → 0 < node.needed
+  ended_needs node slot size here is = by_link (is_linked slot row.list) (sound.each slot node here)
+    where
+      by_flag : (b : Bool) → node.ended ≡ b → NeedsAs b node.needed → 0 < node.needed
+      by_flag true ended some = some
+      by_flag false open_still none = absurd (is_ended node size is open_still)
+
+      by_link : (b : Bool) → IsInPlace b node → 0 < node.needed
+      by_link true open_still = absurd (is_ended node size is open_still)
+      by_link false answered = by_flag node.ended refl answered.needs
+
+  off_granted : (e : Entry ℕ) → IsNamed ended_of_node 0 row.list.nodes.slots e → (entries : List (Entry ℕ)) → AllByRecursion (IsNamed granted_to 0 row.list.nodes.slots) entries
+      → IsOff e.name (map (λ e. e.name) entries)
+  off_granted e was [] each = tt
+  off_granted e was (x ∷ xs) each = (by_test (nat_eq e.name x.name) refl, off_granted e was xs each.1)
+    where
+      by_test : (b : Bool) → nat_eq e.name x.name ≡ b → b ≡ false
+      by_test false differs = refl
+      by_test true e_same =
+          let same : e.name ≡ x.name = grind (arith, nat_tests) in
+          at_slot ended_of_node (true ≡ false) e was
+          (λ node here size.
+          at_slot granted_to (true ≡ false) x each.0
+          (λ other there granted.
+          let is : node ≡ other = (let both : Some node ≡ Some other = sym here ∙ ap (λ s. waiter_at s row.list) same ∙ there in cc) in
+          absurd (granted_needs_none other x.size granted (subst (λ (n : WaitNode). 0 < n.needed) is (ended_needs node e.name e.size here size)))))
+
+  pub requests-distinct : IsDistinct nat_eq (map (λ e. e.name) (requests (line_of (part row))))
+  requests-distinct =
+      subst (IsDistinct nat_eq) (sym (map-append (λ e. e.name) (granted_of row.list) (map entry_of (requests_of (linked_nodes row.list)))))
+      (once_both (granted_of row.list) (names_waiting (node_at row.list) row.list.linked)
+      (entries-distinct granted_to 0 row.list.nodes.slots)
+      (once_waiting (node_at row.list) (node_at-named row.list) row.list.linked sound.list.once)
+      (all-weaker (IsNamed granted_to 0 row.list.nodes.slots) (λ e. IsOff e.name (names_waiting (node_at row.list) row.list.linked))
+      (off_linked granted_to (λ node size is some open_still. granted_needs_none node size is some)) (granted_of row.list) (each-named granted_to 0 row.list.nodes.slots)))
+
+  -- each slot is one request's
+  pub asked-distinct : IsDistinct nat_eq (map (λ e. e.name) (asked row))
+  asked-distinct =
+      subst (IsDistinct nat_eq) (sym (map-append (λ e. e.name) (ended_of row.list) (requests (line_of (part row)))))
+      (once_both (ended_of row.list) (map (λ e. e.name) (requests (line_of (part row))))
+      (entries-distinct ended_of_node 0 row.list.nodes.slots) requests-distinct
+      (all-weaker (IsNamed ended_of_node 0 row.list.nodes.slots) (λ e. IsOff e.name (map (λ e. e.name) (requests (line_of (part row))))) apart (ended_of row.list)
+      (each-named ended_of_node 0 row.list.nodes.slots)))
+    where
+      apart : (e : Entry ℕ) → IsNamed ended_of_node 0 row.list.nodes.slots e → IsOff e.name (map (λ e. e.name) (requests (line_of (part row))))
+      apart e was =
+          subst (IsOff e.name) (sym (map-append (λ e. e.name) (granted_of row.list) (map entry_of (requests_of (linked_nodes row.list)))))
+          (all_of_both (λ y. nat_eq e.name y ≡ false) (map (λ e. e.name) (granted_of row.list)) (names_waiting (node_at row.list) row.list.linked)
+          (off_granted e was (granted_of row.list) (each-named granted_to 0 row.list.nodes.slots))
+          (off_linked ended_of_node (λ node size is some open_still. is_ended node size is open_still) e was))

@@ -15,8 +15,9 @@ use Rattle.band_partial.specs.PartialLine.{Node, PartialLine, AreAlikeParts, Are
 use Rattle.band_partial.specs.Moves.{is_request, with_waker, without_node, share_under, collect, pass_on, cancel_request, end_request, give_out, first_served, first_given, given}
 use Rattle.band_partial.proofs.Follows.{no_word, leave_new_waker-shown, leaves_row, LeavesRow}
 use Rattle.band_partial.proofs.Nodes.{by_nodes, have_nothing}
+use Rattle.band_partial.proofs.Steps.{gives_out_done}
 use Rattle.band_row.specs.Row.{is_slot, Holds, served}
-use Rattle.band_row.specs.Kept.Serves.{Ends, EndsAs, Serves}
+use Rattle.band_row.specs.Kept.Serves.{EndsAs, Serves}
 
 -- Partial lines that differ at most in the order of those granted.
 pub alike_parts-itself : (part : PartialLine) → AreAlikeParts part part
@@ -229,19 +230,19 @@ waiting-first first rest {waker} waits =
 pub waiting-debt : (first : Node) (rest : List Node) → first.waker ≡ None → requests_of (first ∷ rest) ≡ requests_of rest
 waiting-debt first rest owes = ap (λ (w : Option ℕ). requests_of (record first { waker = w } ∷ rest)) owes
 
--- a request that is out of the row had what is passed on
-pub record GivesBack (slot : ℕ) (old : PartialLine) (had : ℕ) (new : PartialLine) : Type 0 where
-  pub cancels : cancel_request (is_slot slot) old ≡ pass_on had new
+-- a request that is out of the row had what is passed on, which makes this of the row
+pub record GivesBack (last old : PartialLine) (had : ℕ) (new : PartialLine) : Type 0 where
+  pub cancels : last ≡ pass_on had new
   pub owing : debts new.nodes ≡ debts old.nodes
   pub wakes : new.wakes ≡ old.wakes
   pub holds : Holds 0 old → Holds had new
   pub given_out : 0 < new.word → new.nodes ≡ []
   pub in_order : AreInOrder new.nodes
 
-pub ends-gives_back : (slot : ℕ) (old : PartialLine) (had : ℕ) (new : PartialLine) → IsSettled old → Ends slot old had new → GivesBack slot old had new
+pub ends-gives_back : (slot : ℕ) (old : PartialLine) (had : ℕ) (new : PartialLine) → IsSettled old → EndsAs (entry_named (is_slot slot) old.granted) slot old had new → GivesBack (cancel_request (is_slot slot) old) old had new
 ends-gives_back slot old had new settled = by_found (entry_named (is_slot slot) old.granted) refl
   where
-    collected : (granted : Entry ℕ) → entry_named (is_slot slot) old.granted ≡ Some granted → GivesBack slot old granted.size (collect (is_slot slot) old)
+    collected : (granted : Entry ℕ) → entry_named (is_slot slot) old.granted ≡ Some granted → GivesBack (cancel_request (is_slot slot) old) old granted.size (collect (is_slot slot) old)
     collected granted there = record {
       cancels = ap (λ (found : Option (Entry ℕ)). end_request found (is_slot slot) old) there;
       owing = refl;
@@ -254,7 +255,7 @@ ends-gives_back slot old had new settled = by_found (entry_named (is_slot slot) 
         came_back : (word s o t t' size most : ℕ) → size + t' ≡ t → ((pos (word + s) -ℤ pos o) +ℤ pos (t + 0)) ≤ℤ pos most → ((pos (word + s) -ℤ pos o) +ℤ pos (t' + size)) ≤ℤ pos most
         came_back word s o t t' size most e h = omega (arith, ints)
 
-    gone : entry_named (is_slot slot) old.granted ≡ None → GivesBack slot old (share_under (is_slot slot) old.nodes) (record old { nodes = without_node (is_slot slot) old.nodes })
+    gone : entry_named (is_slot slot) old.granted ≡ None → GivesBack (cancel_request (is_slot slot) old) old (share_under (is_slot slot) old.nodes) (record old { nodes = without_node (is_slot slot) old.nodes })
     gone none = record {
       cancels = ap (λ (found : Option (Entry ℕ)). end_request found (is_slot slot) old) none;
       owing = debts-without (is_slot slot) old.nodes;
@@ -270,9 +271,23 @@ ends-gives_back slot old had new settled = by_found (entry_named (is_slot slot) 
         came_back : (word s s' k o o' t most : ℕ) → s ≡ k + s' → o ≡ o' → ((pos (word + s) -ℤ pos o) +ℤ pos (t + 0)) ≤ℤ pos most → ((pos (word + s') -ℤ pos o') +ℤ pos (t + k)) ≤ℤ pos most
         came_back word s s' k o o' t most es eo h = omega (arith, ints)
 
-    by_found : (found : Option (Entry ℕ)) → entry_named (is_slot slot) old.granted ≡ found → EndsAs found slot old had new → GivesBack slot old had new
+    by_found : (found : Option (Entry ℕ)) → entry_named (is_slot slot) old.granted ≡ found → EndsAs found slot old had new → GivesBack (cancel_request (is_slot slot) old) old had new
     by_found (Some granted) there ends =
-        subst (λ (n : ℕ). GivesBack slot old n new) (sym ends.0) (subst (λ (part : PartialLine). GivesBack slot old granted.size part) (sym ends.1) (collected granted there))
+        subst (λ (n : ℕ). GivesBack (cancel_request (is_slot slot) old) old n new) (sym ends.0) (subst (λ (part : PartialLine). GivesBack (cancel_request (is_slot slot) old) old granted.size part) (sym ends.1) (collected granted there))
     by_found None none ends =
-        subst (λ (n : ℕ). GivesBack slot old n new) (sym ends.0)
-        (subst (λ (part : PartialLine). GivesBack slot old (share_under (is_slot slot) old.nodes) part) (sym ends.1) (gone none))
+        subst (λ (n : ℕ). GivesBack (cancel_request (is_slot slot) old) old n new) (sym ends.0)
+        (subst (λ (part : PartialLine). GivesBack (cancel_request (is_slot slot) old) old (share_under (is_slot slot) old.nodes) part) (sym ends.1) (gone none))
+
+-- one that was ended had nothing
+pub nothing-gives_back : (old : PartialLine) → IsSettled old → GivesBack old old 0 old
+nothing-gives_back old settled = record {
+  cancels = sym (ap give_out same ∙ gives_out_done old settled);
+  owing = refl;
+  wakes = refl;
+  holds = λ holds. holds;
+  given_out = settled.given_out;
+  in_order = settled.in_order;
+}
+  where
+    same : ◌≡◌ {A = PartialLine} (record old { word = old.word + 0 }) old
+    same = ap (λ (word : ℕ). record old { word = word }) (omega arith)

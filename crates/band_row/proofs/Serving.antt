@@ -17,13 +17,13 @@ use Rattle.band_partial.specs.Moves.{give_out, first_served, first_given, given}
 use Rattle.band_partial.proofs.Nodes.{have_nothing}
 use Rattle.band_partial.proofs.Steps.{gives_out_served, gives_out_given, gives_out_done}
 use Rattle.band_partial.proofs.Order.{give_out-alike}
-use Rattle.band_row.specs.Row.{RowState, part, node_of, node_at, linked_nodes, granted_of, granted_size, served, Holds}
+use Rattle.band_row.specs.Row.{RowState, IsAnswered, IsInPlace, SameEnded, part, node_of, node_at, linked_nodes, granted_of, ended_of, granted_to, ended_of_node, size_by, served, Holds}
 use Rattle.band_row.specs.Kept.Counts.{CountsState, IsKept}
 use Rattle.band_row.specs.Kept.Serves.{Serves, granted_node}
 use Rattle.band_row.specs.declared.wait_node.WaitNode.{WaitNode}
-use Rattle.band_row.proofs.Granted.{LeavesSlot, granted-more, total-gone}
+use Rattle.band_row.proofs.Granted.{LeavesSlot, entries-more, total-gone}
 use Rattle.band_row.proofs.Linked.{linked-first, linked-served, linked-given, linked-needs, linked-kept}
-use Rattle.band_row.proofs.Moving.{ChangesAt, granted_by_slot, granted_stays, needs_some}
+use Rattle.band_row.proofs.Moving.{ChangesAt, by_slot, entries_stay, needs_some, is_open}
 use Rattle.band_row.proofs.Parts.{served-alike, alike_parts-equal, alike_parts-then, holds-alike, served-holds, given-holds, granting-fits, waiting-first, waiting-debt}
 
 -- The list, once the node in front answered.
@@ -131,7 +131,7 @@ gives_first old new first rest before after nodes few is order more = record {
     visits n false e = absurd (cc)
 
 -- those behind the node in front are in order
-order_behind : (first : Node) (rest : List Node) → AreInOrder (first ∷ rest) → AreInOrder rest
+pub order_behind : (first : Node) (rest : List Node) → AreInOrder (first ∷ rest) → AreInOrder rest
 order_behind first rest order = by_waker first.waker order
   where
     by_waker : (w : Option ℕ) → AreInOrder (record first { waker = w } ∷ rest) → AreInOrder rest
@@ -142,6 +142,7 @@ order_behind first rest order = by_waker first.waker order
 pub record Served (old new : RowState) (counted : CountsState) (before after : ℕ) : Type 0 where
   pub kept : IsKept new counted
   pub serves : Serves (part old) (part new) before after
+  pub ended : SameEnded old new
   pub holds : Holds 0 (part new)
 
 -- the row after the grant of a request, after the payment of a debt, and after all went to a node that needs more
@@ -165,8 +166,14 @@ module _ {old : RowState} {counted : CountsState} {id : ℕ} {node : WaitNode} (
   needs : (0 < node.needed) × (node.needed ≤ node.size)
   needs = linked-needs old.list id here kept.row.in_order linked
 
-  not_granted : granted_size (waiter_at id old.list) ≡ None
-  not_granted = ap granted_size here ∙ needs_some node needs.0
+  not_granted : size_by granted_to (waiter_at id old.list) ≡ None
+  not_granted = ap (size_by granted_to) here ∙ needs_some node needs.0
+
+  not_ended : node.ended ≡ false
+  not_ended = subst (λ b. IsInPlace b node) linked (kept.row.each id node here)
+
+  none_ended : size_by ended_of_node (waiter_at id old.list) ≡ None
+  none_ended = ap (size_by ended_of_node) here ∙ is_open node not_ended
 
   -- the node in front needs no more than is available, and is linked no more
   module _ {mid : WaitListState WaitNode} (left : IsUnlinked id (granted_node node) old.list mid) (enough : node.needed ≤ old.word) where
@@ -184,8 +191,8 @@ module _ {old : RowState} {counted : CountsState} {id : ℕ} {node : WaitNode} (
       woken : (node_of id node).waker ≡ Some waker.0
       woken = ap (option_map (λ w. w.0)) waits
 
-      leaves : LeavesSlot id mid.nodes.slots old.list.nodes.slots
-      leaves = record { gone = not_granted; others = λ other differs. ap granted_size (sym (left.others other differs)) }
+      leaves : LeavesSlot granted_to id mid.nodes.slots old.list.nodes.slots
+      leaves = record { gone = not_granted; others = λ other differs. ap (size_by granted_to) (sym (left.others other differs)) }
 
       alike : AreAlikeParts (first_served (node_of id node) (linked_nodes mid) (part old)) (part (granted_row old mid node waker))
       alike =
@@ -193,7 +200,7 @@ module _ {old : RowState} {counted : CountsState} {id : ℕ} {node : WaitNode} (
           (record {
             word = refl;
             nodes = refl;
-            granted = granted-more id node.size mid.nodes.slots old.list.nodes.slots (ap granted_size left.value) leaves;
+            granted = entries-more granted_to id node.size mid.nodes.slots old.list.nodes.slots (ap (size_by granted_to) left.value) leaves;
             wakes = refl;
           })
 
@@ -220,21 +227,23 @@ module _ {old : RowState} {counted : CountsState} {id : ℕ} {node : WaitNode} (
           row = record {
             list = unlinked-sound kept.row.list first left;
             in_order = order_left;
-            granted = granted_by_slot mid_change kept.row.granted now_granted;
+            each = by_slot mid_change kept.row.each now_granted;
           };
           waiting = less (length (requests_of (linked_nodes mid))) one_waits;
-          granted = sum (total (granted_of mid)) (total-gone id node.size mid.nodes.slots old.list.nodes.slots (ap granted_size left.value) leaves);
+          granted = sum (total (granted_of mid)) (total-gone granted_to id node.size mid.nodes.slots old.list.nodes.slots (ap (size_by granted_to) left.value) leaves);
           room = below kept.room;
         };
         serves = serves_first (part old) (part (granted_row old mid node waker)) (node_of id node) (linked_nodes mid) before after nodes enough alike no_fewer no_more;
+        ended = entries_stay mid_change ended_of_node (ap (size_by ended_of_node) left.value ∙ sym none_ended);
         holds = holds-alike _ _ alike 0 (served-holds (part old) (node_of id node) (linked_nodes mid) nodes order holds enough);
       }
         where
-          now_granted : (found : WaitNode) → waiter_at id mid ≡ Some found → is_linked id mid ≡ false → (found.needed ≡ 0) × (found.waker ≡ None) × (0 < found.size)
-          now_granted found there off =
+          now_granted : (found : WaitNode) → waiter_at id mid ≡ Some found → IsInPlace (is_linked id mid) found
+          now_granted found there =
               let same : granted_node node ≡ found = (let value = left.value in cc) in
               let sized : 0 < node.size = (let some = needs.0 in let fits = needs.1 in omega arith) in
-              subst (λ (n : WaitNode). (n.needed ≡ 0) × (n.waker ≡ None) × (0 < n.size)) same (refl, refl, sized)
+              subst (λ b. IsInPlace b found) (sym left.detached.not_linked)
+              (subst IsAnswered same (record { needs = refl; no_waker = refl; some = sized }))
 
           less : (n : ℕ) → n + 1 ≡ counted.waiting → counted.waiting - 1 ≡ n
           less n e = omega arith
@@ -271,7 +280,7 @@ module _ {old : RowState} {counted : CountsState} {id : ℕ} {node : WaitNode} (
               by_test false e = let differs : slot ≢ id = grind (arith, nat_tests) in others slot differs
 
       same_granted : granted_of list ≡ granted_of old.list
-      same_granted = granted_stays change (ap granted_size vacant ∙ sym not_granted)
+      same_granted = entries_stay change granted_to (ap (size_by granted_to) vacant ∙ sym not_granted)
 
       owed_to : (node_of id node).waker ≡ None
       owed_to = ap (option_map (λ (w : Waker). w.0)) owes
@@ -292,7 +301,7 @@ module _ {old : RowState} {counted : CountsState} {id : ℕ} {node : WaitNode} (
           row = record {
             list = sound;
             in_order = subst AreInOrder (sym nodes_left) order_left;
-            granted = granted_by_slot change kept.row.granted (λ found there off. absurd (let none = vacant in cc));
+            each = by_slot change kept.row.each (λ found there. absurd (let none = vacant in cc));
           };
           waiting =
               kept.waiting ∙ ap (λ (row : List Node). length (requests_of row)) nodes
@@ -303,6 +312,7 @@ module _ {old : RowState} {counted : CountsState} {id : ℕ} {node : WaitNode} (
         serves =
             serves_first (part old) (part (paid_row old list node)) (node_of id node) (linked_nodes mid) before after nodes enough
             (alike_parts-equal _ _ paid_is) no_fewer no_more;
+        ended = entries_stay change ended_of_node (ap (size_by ended_of_node) vacant ∙ sym none_ended);
         holds = subst (Holds 0) paid_is (served-holds (part old) (node_of id node) (linked_nodes mid) nodes order holds enough);
       }
 
@@ -334,8 +344,8 @@ module _ {old : RowState} {counted : CountsState} {id : ℕ} {node : WaitNode} (
 
     granted_still : granted_of list ≡ granted_of old.list
     granted_still =
-        granted_stays written_change
-        (ap granted_size written.value ∙ needs_some (record node { needed = node.needed - old.word }) some_left.0 ∙ sym not_granted)
+        entries_stay written_change granted_to
+        (ap (size_by granted_to) written.value ∙ needs_some (record node { needed = node.needed - old.word }) some_left.0 ∙ sym not_granted)
 
     given_is : part (lowered_row old list) ≡ first_given (node_of id node) (behind_first old.list) (part old)
     given_is = λ i. record { word = 0; nodes = nodes_after i; granted = granted_still i; wakes = old.wakes }
@@ -354,8 +364,10 @@ module _ {old : RowState} {counted : CountsState} {id : ℕ} {node : WaitNode} (
         row = record {
           list = written-sound kept.row.list written;
           in_order = order_after;
-          granted = granted_by_slot written_change kept.row.granted
-              (λ found there off. absurd (let never : true ≡ false = sym linked ∙ sym (links_stay id) ∙ off in cc));
+          each = by_slot written_change kept.row.each
+              (λ found there.
+              let same : record node { needed = node.needed - old.word } ≡ found = (let value = written.value in cc) in
+              subst (λ b. IsInPlace b found) (sym (links_stay id ∙ linked)) (ap (λ n. n.ended) (sym same) ∙ not_ended));
         };
         waiting =
             kept.waiting ∙ ap (λ (row : List Node). length (requests_of row)) nodes_before ∙ sym as_many
@@ -364,6 +376,8 @@ module _ {old : RowState} {counted : CountsState} {id : ℕ} {node : WaitNode} (
         room = kept.room;
       };
       serves = gives_first (part old) (part (lowered_row old list)) (node_of id node) (behind_first old.list) before after nodes_before few given_is order_after more;
+      ended = entries_stay written_change ended_of_node
+          (ap (size_by ended_of_node) written.value ∙ is_open (record node { needed = node.needed - old.word }) not_ended ∙ sym none_ended);
       holds = subst (Holds 0) (sym given_is) (given-holds (part old) (node_of id node) (behind_first old.list) nodes_before order_before holds few);
     }
 

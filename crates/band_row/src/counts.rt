@@ -141,6 +141,24 @@ impl Counts {
         }
     }
 
+    /// One that waited waits no longer, and is to be woken.
+    pub(crate) fn call(&mut self, waker: Waker)
+        requires waits { 0 < self.old.waiting }
+        requires room { 0 < self.old.wakes.spare }
+        ensures { self.new ≡ record self.old {
+          waiting = self.old.waiting - 1;
+          wakes = record { wakers = self.old.wakes.wakers ++ waker.0 ∷ []; spare = self.old.wakes.spare - 1 };
+        } }
+    {
+        match &mut self.kept {
+            Some(kept) => {
+                kept.waiting -= 1;
+                kept.wakes.push(waker);
+            }
+            None => unreachable!(),
+        }
+    }
+
     /// So many that were granted are collected, or come back.
     pub(crate) fn collect(&mut self, size: u64)
         requires { size ≤ self.old.granted_sum }

@@ -5,5 +5,5 @@ mod counts;
 mod row;
 mod wait_node;
 
-pub use row::Row;
+pub use row::{Found, Row};
 pub use wait_node::WaitNode;

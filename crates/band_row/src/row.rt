@@ -1,12 +1,12 @@
 //! The row: what is available, the nodes, and the wakers to wake.
-ghost use Rattle.std.specs.Prelude.{◌≡◌, ◌+◌, ◌*◌, ◌<◌, ◌≤◌, ◌↔◌, length, [], Some, IsSome, IfSome, IfNone, OnOk, OnErr, MatchOption, None};
-ghost use Rattle.band_balance.specs.Line.{total};
+ghost use Rattle.std.specs.Prelude.{◌≡◌, ◌+◌, ◌*◌, ◌<◌, ◌≤◌, ◌↔◌, ◌≤ℤ◌, pos, neg_ℤ, length, [], Some, IsSome, IfSome, IfNone, OnOk, OnErr, MatchOption, None};
+ghost use Rattle.band_balance.specs.Line.{total, u64_max};
 ghost use Rattle.band_line.specs.Visits.{Visits};
 ghost use Rattle.band_line.specs.WaitList.{IsWaitList, waiter_at, first_waiter};
-ghost use Rattle.band_partial.specs.PartialLine.{AreAlikeParts, IsSettled, debts, requests_of};
-ghost use Rattle.band_partial.specs.Moves.{open_part, draw, give_out, pass_on, cancel_request};
-ghost use Rattle.band_row.specs.Row.{IsRow, is_slot, part, HasRequest, Holds, Enqueues, Owes, PollsNode, TakesWake, served};
-ghost use Rattle.band_row.specs.Kept.Serves.{Ends, Serves, ServesNode, IsGone};
+ghost use Rattle.band_partial.specs.PartialLine.{AreAlikeParts, IsSettled, debts, free_of, requests_of};
+ghost use Rattle.band_partial.specs.Moves.{open_part, draw, give_out, pass_on};
+ghost use Rattle.band_row.specs.Row.{IsRow, part, ended_of, HasRequest, Holds, Enqueues, Owes, SameEnded, PollsNode, Cancels, EndsAll, TakesWake, served};
+ghost use Rattle.band_row.specs.Kept.Serves.{Ends, EndsNode, EndsFirst, Serves, ServesNode, IsGone};
 
 use crate::WaitNode;
 use crate::counts::Counts;
@@ -16,6 +16,17 @@ use std::alloc::{AllocError, Global};
 use std::marker::Model;
 use std::mem;
 use std::sync::ledger::Ledger;
+
+/// What a later poll finds.
+#[derive(Drop)]
+pub enum Found {
+    /// It waits, and left its new waker.
+    Waits,
+    /// It was granted so many, and is gone.
+    Granted(u64),
+    /// It was ended, and is gone.
+    Ended,
+}
 
 /// What is available and who waits for more, or is owed some, in a line.
 #[derive(Drop)]
@@ -45,6 +56,7 @@ impl Row {
     /// All permits are available.
     pub fn new(alloc: Global, permits: u64) -> Row
         ensures part { part result ≡ open_part permits }
+        ensures ended { ended_of result.list ≡ [] }
         ensures row { IsRow result }
     {
         Row {
@@ -88,6 +100,7 @@ impl Row {
     pub fn draw(&mut self, n: u64)
         requires { n ≤ self.old.word }
         ensures part { part self.new ≡ draw n (part self.old) }
+        ensures ended { SameEnded self.old self.new }
         ensures row { IsRow self.new }
     {
         self.word -= n;
@@ -102,7 +115,8 @@ impl Row {
     ) -> Result<WaiterId, AllocError>
         requires more { self.old.word < size }
         requires settled { IsSettled (part self.old) }
-        ensures joins { Enqueues size waker.0 (part self.old) result (part self.new) }
+        ensures joins { Enqueues size waker.0 self.old result self.new }
+        ensures ended { SameEnded self.old self.new }
         ensures settled { IsSettled (part self.new) }
         ensures row { IsRow self.new }
         ensures visits { OnOk result (Visits 1 2 steps.old steps.new) }
@@ -123,6 +137,7 @@ impl Row {
         requires more { self.old.word < n }
         requires settled { IsSettled (part self.old) }
         ensures owes { Owes n (part self.old) result (part self.new) }
+        ensures ended { SameEnded self.old self.new }
         ensures settled { IsSettled (part self.new) }
         ensures row { IsRow self.new }
         ensures visits { OnOk result (Visits 1 2 steps.old steps.new) }
@@ -133,32 +148,30 @@ impl Row {
         Ok(self.list.push_front(WaitNode::debt(n, needed), steps))
     }
 
-    /// A request that was granted leaves, and its size is the answer. One that waits leaves its new waker.
-    pub fn poll<L: Ledger>(
-        &mut self,
-        id: WaiterId,
-        waker: Waker,
-        steps: &mut Steps<L>,
-    ) -> Option<u64>
-        requires here { HasRequest id (part self.old) }
-        ensures polls { PollsNode id waker.0 (part self.old) result (part self.new) }
+    /// A request that was granted or ended leaves. One that waits leaves its new waker.
+    pub fn poll<L: Ledger>(&mut self, id: WaiterId, waker: Waker, steps: &mut Steps<L>) -> Found
+        requires here { HasRequest id self.old }
+        ensures polls { PollsNode id waker.0 self.old result self.new }
         ensures row { IsRow self.new }
         ensures visits { Visits 1 2 steps.old steps.new }
     {
         if self.list.waiter_mut(id, steps).leaves_waker(waker) {
-            return None;
+            return Found::Waits;
         }
-        let size = self.list.remove_unlinked_waiter(id, steps).size;
-        self.counts.collect(size);
-        Some(size)
+        let node = self.list.remove_unlinked_waiter(id, steps);
+        if node.ended {
+            return Found::Ended;
+        }
+        self.counts.collect(node.size);
+        Found::Granted(node.size)
     }
 
-    /// Ends a request. What it was granted, or else its share, is given out.
+    /// Takes a request out. What it was granted, or else its share, is given out.
     pub fn cancel<L: Ledger>(&mut self, id: WaiterId, steps: &mut Steps<L>)
-        requires here { HasRequest id (part self.old) }
+        requires here { HasRequest id self.old }
         requires holds { Holds 0 (part self.old) }
         requires settled { IsSettled (part self.old) }
-        ensures part { AreAlikeParts (cancel_request (is_slot id) (part self.old)) (part self.new) }
+        ensures cancels { Cancels id self.old self.new }
         ensures settled { IsSettled (part self.new) }
         ensures row { IsRow self.new }
         ensures debts { debts (part self.new).nodes ≤ debts (part self.old).nodes }
@@ -173,6 +186,7 @@ impl Row {
         requires holds { Holds n (part self.old) }
         requires settled { IsSettled (part self.old) }
         ensures part { AreAlikeParts (pass_on n (part self.old)) (part self.new) }
+        ensures ended { SameEnded self.old self.new }
         ensures settled { IsSettled (part self.new) }
         ensures row { IsRow self.new }
         ensures debts { debts (part self.new).nodes ≤ debts (part self.old).nodes }
@@ -182,10 +196,32 @@ impl Row {
         self.give_out(steps);
     }
 
-    /// Takes a request out, and tells what it had: what it was granted, or else its share.
+    /// Ends all that wait, each of whom is to be woken. `free` is what is free of the row, or owed where it is
+    /// negative, and stays so. It takes no memory.
+    pub fn close<L: Ledger>(&mut self, free: i128, steps: &mut Steps<L>)
+        requires free { free ≡ free_of self.old.word (part self.old).nodes }
+        requires owed { neg_ℤ (pos u64_max) ≤ℤ free }
+        requires fits { free ≤ℤ pos u64_max }
+        ensures ends { EndsAll self.old self.new }
+        ensures settled { IsSettled (part self.new) }
+        ensures row { IsRow self.new }
+        ensures visits { Visits 0 (4 * served (part self.old) (part self.new) + 6) steps.old steps.new }
+    {
+        self.end_linked(steps);
+        let amount = free.unsigned_abs() as u64;
+        if free >= 0 {
+            self.word = amount;
+            return;
+        }
+        self.word = 0;
+        self.list.push_front(WaitNode::debt(amount, amount), steps);
+    }
+
+    /// Takes a request out, and tells what it had: what it was granted, or else its share, and nothing where it was
+    /// ended.
     fn take_out<L: Ledger>(&mut self, id: WaiterId, steps: &mut Steps<L>) -> u64
-        requires here { HasRequest id (part self.old) }
-        ensures ended { Ends id (part self.old) result (part self.new) }
+        requires here { HasRequest id self.old }
+        ensures ends { Ends id self.old result self.new }
         ensures visits { Visits 2 5 steps.old steps.new }
     {
         let node = leave(&mut self.list, id, steps);
@@ -193,8 +229,38 @@ impl Row {
             self.counts.leave();
             return node.size - node.needed;
         }
+        if node.ended {
+            return 0;
+        }
         self.counts.collect(node.size);
         node.size
+    }
+
+    /// No node is linked afterwards: those that waited are ended, and what was owed is gone.
+    fn end_linked<L: Ledger>(&mut self, steps: &mut Steps<L>)
+        ensures ends { EndsFirst self.old self.new steps.old steps.new }
+        ensures none { (part self.new).nodes ≡ [] }
+        ensures row { IsRow self.new }
+    {
+        while let Some(first) = self.list.first() {
+            self.end_first(first, steps);
+        }
+    }
+
+    /// The node in front leaves: a request is ended and is to be woken, and a debt is gone.
+    fn end_first<L: Ledger>(&mut self, first: WaiterId, steps: &mut Steps<L>)
+        requires { first_waiter self.old.list ≡ Some first }
+        ensures ends { EndsFirst self.old self.new steps.old steps.new }
+        ensures fewer { length self.new.list.linked < length self.old.list.linked }
+        ensures row { IsRow self.new }
+    {
+        let node = end(&mut self.list, first, steps);
+        match node.waker {
+            Some(waker) => self.counts.call(waker),
+            None => {
+                self.list.remove_unlinked_waiter(first, steps);
+            }
+        }
     }
 
     /// The node in front, where anything is available to serve it with.
@@ -214,6 +280,7 @@ impl Row {
     fn give_out<L: Ledger>(&mut self, steps: &mut Steps<L>)
         requires holds { Holds 0 (part self.old) }
         ensures part { AreAlikeParts (give_out (part self.old)) (part self.new) }
+        ensures ended { SameEnded self.old self.new }
         ensures settled { IsSettled (part self.new) }
         ensures row { IsRow self.new }
         ensures debts { debts (part self.new).nodes ≤ debts (part self.old).nodes }
@@ -230,6 +297,7 @@ impl Row {
         requires some { 0 < self.old.word }
         requires holds { Holds 0 (part self.old) }
         ensures serves { Serves (part self.old) (part self.new) steps.old steps.new }
+        ensures ended { SameEnded self.old self.new }
         ensures holds { Holds 0 (part self.new) }
         ensures less { self.new.word < self.old.word }
     {
@@ -249,6 +317,7 @@ impl Row {
     /// Takes the oldest waker to wake, if there is one.
     pub fn take_wake(&mut self) -> Option<Waker>
         ensures woken { TakesWake (part self.old) result (part self.new) }
+        ensures ended { SameEnded self.old self.new }
         ensures row { IsRow self.new }
     {
         self.counts.take_wake()
@@ -288,5 +357,22 @@ fn serve_first<L: Ledger>(
             Some(mem::replace(node, granted))
         }
         None => None,
+    }
+}
+
+/// The node in front leaves the line as one that was ended, and the answer is what it was.
+fn end<L: Ledger>(list: &mut WaitList<WaitNode>, first: WaiterId, steps: &mut Steps<L>) -> WaitNode
+    requires first { first_waiter list.old ≡ Some first }
+    requires here { IsSome (waiter_at first list.old) }
+    ensures ends { EndsNode first list.old result list.new }
+    ensures sound { IsWaitList list.old }
+    ensures visits { Visits 1 3 steps.old steps.new }
+{
+    match list.unlink_waiter(first, |_| true, steps) {
+        Some(node) => {
+            let ended = WaitNode::ended(node.size, node.needed);
+            mem::replace(node, ended)
+        }
+        None => unreachable!(),
     }
 }

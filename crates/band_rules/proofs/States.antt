@@ -5,8 +5,7 @@ use Rattle.std.specs.Str.{bytes_eq}
 use Rattle.std.proofs.lemmas.Bool.{cond-true, cond-false, cond_both, false≢true}
 use Rattle.band_balance.specs.Line.{Entry, requests, entry_named}
 use Rattle.band_balance.specs.Object.{Object}
-use Rattle.band_balance.specs.Rule.{has_name, IsFresh}
-use Rattle.band_balance.specs.Rule.{has_name as is_tag}
+use Rattle.band_balance.specs.Rule.{has_name, IsFresh, has_name as is_tag}
 use Rattle.band_balance.proofs.Held.{other_way}
 use Rattle.band_balance.proofs.Orderly.{pairwise-push}
 use Rattle.band_balance.proofs.Requests.{all-weaker}
@@ -68,10 +67,8 @@ absent name (first ∷ rest) is = go (absent name rest) (bytes_eq name first.nam
         → entry_named (is_tag bytes_eq name) (requests first.object.line) ≡ request
         → (holding : Option (Entry Tag)) → entry_named (is_tag bytes_eq name) first.object.held ≡ holding → standing_at first b request holding (standing name rest) ≡ Absent
         → AllByRecursion (IsAbsent name) (first ∷ rest)
-    go rests true apart request there holding also none = cc
-    go rests false apart (Some entry) there holding also none = cc
-    go rests false apart None there (Some entry) also none = cc
     go rests false apart None there None also none = (record { apart = apart; fresh = record { asked = there; held = also } }, rests none)
+    go rests b apart request there holding also none = cc
 
 -- Another object under a name that one has.
 module _ (name : List ℕ) (object : Object Tag) where

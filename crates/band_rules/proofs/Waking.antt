@@ -6,7 +6,7 @@ use Rattle.std.specs.Str.{bytes_eq}
 use Rattle.band_base.specs.declared.refusal.Refusal.{Refusal}
 use Rattle.band_balance.specs.Laws.{granted_between, GrantsAFront}
 use Rattle.band_balance.specs.Line.{Waiting}
-use Rattle.band_balance.specs.Object.{Object, Answer, Done, Ready, Pending, Nothing, Drained, Figures}
+use Rattle.band_balance.specs.Object.{Object, Answer, Done}
 use Rattle.band_balance.specs.Rule.{Rule, act, leaver}
 use Rattle.band_balance.proofs.Fronts.{granted-same, front-same}
 use Rattle.band_balance.proofs.Rules.{bytes_told, woken-act, nobody-act, front-act}
@@ -106,11 +106,7 @@ front-after calls call = front (state_after calls) (in_order-after calls) call
 -- no rule of an object refuses
 not_refused : (answer : Answer) (refusal : Refusal) → reply_of answer ≡ replies.Refused refusal → ⊥
 not_refused Done refusal is = cc
-not_refused Ready refusal is = cc
-not_refused Pending refusal is = cc
-not_refused Nothing refusal is = cc
-not_refused (Drained count) refusal is = cc
-not_refused (Figures available free waiting granted held) refusal is = cc
+not_refused answer refusal is = cc
 
 pub refuses_whole : (state : State) (call : Call) → RefusesWhole state (step call state)
 refuses_whole state call = go (plan call state)

@@ -1,25 +1,17 @@
 -- The calls of a script are ones that a script can write.
-use Rattle.std.proofs.Common.{◌≡◌, ℕ, Bool, true, false, cond, List, [], ◌∷◌, Option, Some, None, refl}
-use Rattle.std.specs.List.{AllByRecursion, find, list_all}
+use Rattle.std.proofs.Common.{◌≡◌, ℕ, List, [], ◌∷◌, Option, Some, None, refl}
+use Rattle.std.specs.List.{AllByRecursion, list_all}
 use Rattle.std.proofs.lemmas.Bool.{and_parts}
 use Rattle.band_script.specs.Call.{parts, has_readers, IsCall, ForReaders}
-use Rattle.band_script.specs.Grammar.{is_line, readings, words_of, call_of}
+use Rattle.band_script.specs.Grammar.{call_of}
 use Rattle.band_script.specs.Name.{is_name}
 use Rattle.band_script.specs.declared.call.Call.{Call}
+use Rattle.band_script.proofs.Decoding.{call_of_line}
 use Rattle.band_rules.specs.Bounds.{HasNumbers}
 use Rattle.band_rules.specs.Script.{calls_from, calls_of}
 
-found_passes : {A : Type 0} (p : A → Bool) (xs : List A) (x : A) → find p xs ≡ Some x → p x ≡ true
-found_passes p [] x is = cc
-found_passes {A} p (y ∷ ys) x is = go (p y) refl is (found_passes p ys x)
-  where
-    go : (b : Bool) → p y ≡ b → cond b (Some y) (find p ys) ≡ Some x → (find p ys ≡ Some x → p x ≡ true) → p x ≡ true
-    go true passes is rest = let same : y ≡ x = cc in rw (← same) passes
-    go false fails is rest = rest is
-
 is_written : (line : List ℕ) (call : Call) → call_of line ≡ Some call → IsCall call
-unfolding call_of
-is_written line call is = (and_parts _ _ (found_passes (is_line line) (readings (words_of line)) call is)).1
+is_written line call is = ((call_of_line line call).0 is).0
 
 module _ (P : Call → Type 0) (written : (call : Call) → IsCall call → P call) where
   each_from : (line : List ℕ) (read : Option Call) (rest : List Call) → call_of line ≡ read → AllByRecursion P rest → AllByRecursion P (calls_from read rest)

@@ -40,5 +40,6 @@ StandInTurn calls line =
 abbrev pub GrantedInTurn : List Call → Line Tag → Type 0
 GrantedInTurn calls line =
     AllByRecursion (λ (waits : Waiting Tag).
-    AllByRecursion (λ (granted : Entry Tag). joined_at granted.name.name calls < joined_at waits.name.name calls)
+    AllByRecursion
+    (λ (granted : Entry Tag). joined_at granted.name.name calls < joined_at waits.name.name calls)
     line.granted) line.waiting

@@ -29,19 +29,12 @@ abbrev pub ◌>>=◌ : {A : Type 0} → Result A Refusal → (A → Plan) → Pl
 (Ok found) >>= f = f found
 (Err refusal) >>= f = Refuse refusal
 
--- an object of any kind
-abbrev pub object_of : Standing → Result Named Refusal
-object_of Absent = Err Unknown
-object_of (AnObject it) = Ok it
-object_of (ARequest of entry) = Err Kind
-object_of (AHolding of entry) = Err Kind
-
--- an object of which this is asked
-abbrev pub object_for : Mode → Standing → Result Named Refusal
-object_for mode Absent = Err Unknown
-object_for mode (AnObject it) = if is_of it.object.kind mode then Ok it else Err Kind
-object_for mode (ARequest of entry) = Err Kind
-object_for mode (AHolding of entry) = Err Kind
+-- an object of a kind of which this is asked
+abbrev pub object_for : (objects.Kind → Bool) → Standing → Result Named Refusal
+object_for offers Absent = Err Unknown
+object_for offers (AnObject it) = if offers it.object.kind then Ok it else Err Kind
+object_for offers (ARequest of entry) = Err Kind
+object_for offers (AHolding of entry) = Err Kind
 
 -- the object that a request was asked of
 abbrev pub asked_object : Standing → Result Named Refusal
@@ -84,7 +77,7 @@ refuse_if false refusal = Ok tt
 -- a rule on an object of which this is asked, for so much by its kind, under a name that isn't live
 abbrev pub naming : Mode → (objects.Kind → ℕ) → List ℕ → List ℕ → (ℕ → Rule (List ℕ)) → State → Plan
 naming mode size made of rule state = do
-  one ← object_for mode (standing of state)
+  one ← object_for (λ kind. is_of kind mode) (standing of state)
   _ ← refuse_if (is_taken (standing made state)) Taken
   Act one (rule (size one.object.kind))
 
@@ -126,15 +119,15 @@ plan (calls.TryRead made of) state =
 plan (calls.TryWrite made of) state =
     naming Write (λ kind. size_of kind Write) made of (rules.Try (tag Write made)) state
 plan (calls.Release of n) state = do
-  one ← object_for Permit (standing of state)
+  one ← object_for (λ kind. is_of kind Permit) (standing of state)
   _ ← refuse_if (overflows n one.object.line (total one.object.held)) Overflow
   Act one (rules.Release n)
 plan (calls.Reduce of n) state = do
-  one ← object_for Permit (standing of state)
+  one ← object_for (λ kind. is_of kind Permit) (standing of state)
   _ ← refuse_if (owes_too_much n one.object.line) Debt
   Act one (rules.Reduce n)
 plan (calls.Drain of n) state = do
-  one ← object_for Permit (standing of state)
+  one ← object_for (λ kind. is_of kind Permit) (standing of state)
   Act one (rules.Drain n)
 plan (calls.Forget name) state = do
   of ← lender Permit (standing name state)
@@ -155,5 +148,5 @@ plan (calls.Downgrade name) state = do
   of ← lender Write (standing name state)
   Act of (rules.Downgrade name)
 plan (calls.Status name) state = do
-  it ← object_of (standing name state)
+  it ← object_for (λ kind. true) (standing name state)
   Act it rules.Status

@@ -8,8 +8,7 @@ use Rattle.std.proofs.lemmas.Bool.{and_from, and_parts}
 use Rattle.std.proofs.lemmas.Option.{same_Some}
 use Rattle.std.proofs.lemmas.Slice.Eq.{bytes_eq-Decides}
 use Rattle.band_script.specs.declared.call.Call.{Call}
-use Rattle.band_script.specs.declared.call.Call.TheVariants.{Sem, Rw, Ask, Lock, Read, Write, Poll, Try}
-use Rattle.band_script.specs.declared.call.Call.TheVariants.{Release, Reduce, Drain, Split}
+use Rattle.band_script.specs.declared.call.Call.TheVariants.{Sem, Rw, Ask, Lock, Read, Write, Poll, Try, Release, Reduce, Drain, Split}
 use Rattle.band_script.specs.Call.{IsCall, spelling}
 use Rattle.band_script.specs.Grammar.{IsLine, call_of, is_line, line_of, readings, words_of}
 use Rattle.band_script.specs.Inner.Reading.{Decodes}

@@ -1,6 +1,5 @@
 -- A name is ASCII. With zeros after it, it can be found again, and two names compare as before.
-use Rattle.std.proofs.Common.{drop, ◌≡◌, ℕ, zero, suc, ◌+◌, ◌-◌, ◌<◌, ◌≤◌, Bool, true, false, cond, not, List, [], ◌∷◌, ◌++◌, length, get_or, take}
-use Rattle.std.proofs.Common.{replicate, Less, Equal, Greater, refl, sym, ap, ◌∙◌, subst, append_assoc, length-take, arith}
+use Rattle.std.proofs.Common.{drop, ◌≡◌, ℕ, zero, suc, ◌+◌, ◌-◌, ◌<◌, ◌≤◌, Bool, true, false, cond, not, List, [], ◌∷◌, ◌++◌, length, get_or, take, replicate, Less, Equal, Greater, refl, sym, ap, ◌∙◌, subst, append_assoc, length-take, arith}
 use Rattle.std.specs.Prelude.{◌==◌, ◌&&◌}
 use Rattle.std.specs.List.{list_all, position, position_or_len, prefix_len}
 use Rattle.std.specs.Option.{unwrap_or}

@@ -1,6 +1,5 @@
 -- The digits at the front of a text, and the number that they write.
-use Rattle.std.proofs.Common.{subst, take-take, take-append-drop, ◌≡◌, ℕ, Option, Some, None, inl, inr, ◌⊎◌, lit<, lit≤, ◌+◌, ◌*◌, ◌-◌, ◌^◌, ◌<◌, ◌≤◌}
-use Rattle.std.proofs.Common.{true, false, List, [], ◌∷◌, ◌++◌, length, take, drop, get_or, refl, sym, ap, ◌∙◌, below_more, arith, rules}
+use Rattle.std.proofs.Common.{subst, take-take, take-append-drop, ◌≡◌, ℕ, Option, Some, None, inl, inr, ◌⊎◌, lit<, lit≤, ◌+◌, ◌*◌, ◌-◌, ◌^◌, ◌<◌, ◌≤◌, true, false, List, [], ◌∷◌, ◌++◌, length, take, drop, get_or, refl, sym, ap, ◌∙◌, below_more, arith, rules}
 use Rattle.std.specs.Char.{is_ascii_digit, digit_value}
 use Rattle.std.specs.Fmt.{decimal}
 use Rattle.std.specs.List.{list_all, prefix_len, take_while}

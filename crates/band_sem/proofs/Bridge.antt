@@ -12,10 +12,10 @@ use Rattle.band_partial.specs.Moves.{draw, enqueue, owe, collect, leave_new_wake
 use Rattle.band_partial.proofs.Follows.{no_word, available-shown, draw-shown, owe-shown, enqueue-shown, pass_on-shown, collect-shown, leave_new_waker-shown, cancel-shown}
 use Rattle.band_partial.proofs.Nodes.{by_nodes}
 use Rattle.band_partial.proofs.Order.{line-alike}
-use Rattle.band_row.specs.Row.{RowState, IsRow, part}
+use Rattle.band_row.specs.Row.{RowState, part}
 use Rattle.band_sem.specs.declared.store.Store.{Store}
 use Rattle.band_sem.specs.Semaphore.{SemaphoreState, is_slot, new_debts, taken, reduced, joined, received, with_waker as with_new_waker}
-use Rattle.band_sem.specs.Kept.Store.{CountsFit, IsSound, state_of, line_in}
+use Rattle.band_sem.specs.Kept.Store.{CountsFit, IsOpen, IsSound, state_of, line_in}
 
 -- the state that a partial line stands for, beside two counts
 abbrev state_at : ℕ → ℕ → PartialLine → SemaphoreState
@@ -55,7 +55,7 @@ CountsFit-settle_from held free (first ∷ rest) granted wakes h =
 abbrev Fits : ℕ → Line ℕ → Type 0
 Fits held line = CountsFit held line.free (total line.granted)
 
-sound_at : (store : Store) {line : Line ℕ} → IsRow store.row → IsSettled (part store.row) → AreAlike line (line_in store) → store.free ≡ line.free → Fits store.held line → IsSound store
+sound_at : (store : Store) {line : Line ℕ} → IsOpen store.row → IsSettled (part store.row) → AreAlike line (line_in store) → store.free ≡ line.free → Fits store.held line → IsSound store
 sound_at store {line} is_row settled alike free fit = record {
   row = is_row;
   settled = settled;
@@ -69,7 +69,7 @@ pub record Becomes (state : SemaphoreState) (store : Store) : Type 0 where
   pub is : state_of store ≡ state
   pub sound : IsSound store
 
-becomes : (store : Store) {line : Line ℕ} {partial : PartialLine} {owing : ℕ} → IsRow store.row → part store.row ≡ partial → StandsFor line partial → debts partial.nodes ≡ owing → store.free ≡ line.free
+becomes : (store : Store) {line : Line ℕ} {partial : PartialLine} {owing : ℕ} → IsOpen store.row → part store.row ≡ partial → StandsFor line partial → debts partial.nodes ≡ owing → store.free ≡ line.free
     → Fits store.held line → Becomes (record { number = store.number; line = line; held = store.held; debts = owing }) store
 becomes store {line} {partial} is_row same stands many free fit = record {
   is = state_is store.number store.held here (ap (λ (p : PartialLine). debts p.nodes) same ∙ many);
@@ -146,7 +146,7 @@ CountsFit-served held n free granted fits h = elim fits [
 ]
 
 -- What a call makes of a sound store, whose row it moves.
-module _ (old : Store) (sound : IsSound old) (row : RowState) (is_row : IsRow row) where
+module _ (old : Store) (sound : IsSound old) (row : RowState) (is_row : IsOpen row) where
   abbrev partial : PartialLine
   partial = part old.row
 

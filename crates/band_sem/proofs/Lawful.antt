@@ -11,7 +11,7 @@ use Rattle.band_line.specs.WaitList.{waiter_at, is_linked}
 use Rattle.band_partial.specs.PartialLine.{Node, AreInOrder, StandsFor, HasNoShare, requests_of}
 use Rattle.band_partial.proofs.Follows.{available-shown, head_waits-shown}
 use Rattle.band_partial.proofs.Nodes.{by_nodes}
-use Rattle.band_row.specs.Row.{RowState, IsRow, granted_size, granted_of, linked_nodes, part}
+use Rattle.band_row.specs.Row.{RowState, IsRow, IsInPlace, granted_to, granted_of, size_by, linked_nodes, part}
 use Rattle.band_row.specs.declared.wait_node.WaitNode.{WaitNode}
 use Rattle.band_row.proofs.Granted.{IsNamed, each-named}
 use Rattle.band_row.proofs.Linked.{linked-needs, requests-distinct}
@@ -40,7 +40,7 @@ waiting_asks = by_nodes (λ nodes. AreInOrder nodes → Asks (map entry_of (requ
 
 -- who was granted asked for something
 module _ (row : RowState) (sound : IsRow row) where
-  asked : (e : Entry ℕ) (found : Option WaitNode) → waiter_at e.name row.list ≡ found → granted_size found ≡ Some e.size → 0 < e.size
+  asked : (e : Entry ℕ) (found : Option WaitNode) → waiter_at e.name row.list ≡ found → size_by granted_to found ≡ Some e.size → 0 < e.size
   asked e None here size = absurd (cc)
   asked e (Some node) here size = by_link (is_linked e.name row.list) refl
     where
@@ -50,15 +50,15 @@ module _ (row : RowState) (sound : IsRow row) where
 
       by_link : (b : Bool) → is_linked e.name row.list ≡ b → 0 < e.size
       by_link true linked =
-          let none : granted_size (Some node) ≡ None = needs_some node (linked-needs row.list e.name here sound.in_order linked).0 in
+          let none : granted_to node ≡ None = needs_some node (linked-needs row.list e.name here sound.in_order linked).0 in
           absurd (cc)
-      by_link false out = needs_none (node.needed == 0) refl size (sound.granted e.name node here out).2
+      by_link false out = needs_none (node.needed == 0) refl size (subst (λ b. IsInPlace b node) out (sound.each e.name node here)).some
 
   granted_asks : Asks (granted_of row.list)
   granted_asks =
-      all-weaker (IsNamed 0 row.list.nodes.slots) (λ (e : Entry ℕ). 0 < e.size)
+      all-weaker (IsNamed granted_to 0 row.list.nodes.slots) (λ (e : Entry ℕ). 0 < e.size)
       (λ e named. asked e (waiter_at e.name row.list) refl (named.size e.name (omega arith)))
-      (granted_of row.list) (each-named 0 row.list.nodes.slots)
+      (granted_of row.list) (each-named granted_to 0 row.list.nodes.slots)
 
   each_asks : Asks (granted_of row.list ++ map entry_of (requests_of (linked_nodes row.list)))
   each_asks =
@@ -67,8 +67,8 @@ module _ (row : RowState) (sound : IsRow row) where
 
 pub lawful_when_sound : (store : Store) → IsSound store → IsLawful (state_of store)
 lawful_when_sound store h = record {
-  one_each = requests-distinct store.row h.row;
-  each_asks = each_asks store.row h.row;
+  one_each = requests-distinct store.row h.row.row;
+  each_asks = each_asks store.row h.row.row;
   head_waits = head_waits-shown (part store.row) h.settled;
   in_hand = h.fit.in_hand;
   in_all = h.fit.in_all;
@@ -92,7 +92,8 @@ pub shows_line : (store : Store) → IsSound store → ShowsLine (state_of store
 shows_line store sound = record {
   stands = subst (λ (row : RowState). StandsFor (line_in store) (part row)) (sym same) (record { shown = refl; settled = sound.settled });
   debts = refl;
-  row = subst IsRow (sym same) sound.row;
+  row = subst IsRow (sym same) sound.row.row;
+  none_ended = sound.row.none_ended;
 }
   where
     same : row_of (state_of store) store.row.list ≡ store.row

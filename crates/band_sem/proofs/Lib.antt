@@ -2,7 +2,8 @@ pub mod Bridge
 pub mod Held
 pub mod Like
 pub mod Own
+pub mod Requests
 pub mod Visits
 pub mod Whole
 mod Lawful
-mod Laws
+pub mod Laws

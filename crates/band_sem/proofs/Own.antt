@@ -1,5 +1,5 @@
 -- A request keeps its place in the line through the calls for others.
-use Rattle.std.proofs.Common.{◌≡◌, ℕ, true, false, List, [], ◌∷◌, ap, refl, sym, ◌∙◌, arith, nat_eq, Option, Some, None, Result, Ok, Err}
+use Rattle.std.proofs.Common.{◌≡◌, ℕ, true, false, List, [], ◌∷◌, ap, refl, sym, ◌∙◌, subst, arith, nat_eq, Option, Some, None, Result, Ok, Err}
 use Rattle.std.specs.List.{AllByRecursion}
 use Rattle.std.proofs.lemmas.Bool.Decides.{nat_tests}
 use Rattle.band_balance.specs.Line.{Entry, Line, requests, entry_named, join, poll_granted, poll_waiting, cancel}
@@ -121,3 +121,39 @@ IsOwn-polled mine mine' waker old new result own polled = at mine.stage refl own
     at (Joined slot) is own (Ok Pending) (none, leaves, left) = rw (leaves, left, is) (IsOwn-poll_waiting slot mine.size slot waker old.line own)
     at (Joined slot) is own (Err error) polled = absurd polled
     at Finished is own result (refused, same, left) = rw (same, left, is) own
+
+-- one that was not polled has no slot
+pub SlotsDiffer-new : (stage : Stage) → SlotsDiffer stage NotPolled
+SlotsDiffer-new NotPolled = tt
+SlotsDiffer-new (Joined slot) = tt
+SlotsDiffer-new Finished = tt
+
+-- two that don't have one slot don't have one the other way round
+pub SlotsDiffer-back : (mine other : Stage) → SlotsDiffer mine other → SlotsDiffer other mine
+SlotsDiffer-back (Joined mine) (Joined other) apart = turned mine other apart
+  where
+    turned : (a b : ℕ) → nat_eq a b ≡ false → nat_eq b a ≡ false
+    turned a b h = grind (arith, nat_tests)
+SlotsDiffer-back (Joined mine) NotPolled apart = tt
+SlotsDiffer-back (Joined mine) Finished apart = tt
+SlotsDiffer-back NotPolled (Joined other) apart = tt
+SlotsDiffer-back NotPolled NotPolled apart = tt
+SlotsDiffer-back NotPolled Finished apart = tt
+SlotsDiffer-back Finished (Joined other) apart = tt
+SlotsDiffer-back Finished NotPolled apart = tt
+SlotsDiffer-back Finished Finished apart = tt
+
+-- a new request that was polled
+pub IsOwn-asked : (mine mine' : Request) (waker : ℕ) (old new : SemaphoreState) (result : Result (Poll Permit) PollError) → mine.stage ≡ NotPolled → Polls mine waker old result mine' new
+    → IsOwn mine'.stage mine'.size new.line
+IsOwn-asked mine mine' waker old new result fresh polled =
+    IsOwn-polled mine mine' waker old new result (subst (λ (stage : Stage). IsOwn stage mine.size old.line) (sym fresh) tt) polled
+
+-- two new requests are polled, one after the other, and then the one before gives up
+pub IsOwn-behind : (other other' mine mine' : Request) (w w' : ℕ) (s0 s1 s2 s3 : SemaphoreState) (answer answer' : Result (Poll Permit) PollError) → other.stage ≡ NotPolled → mine.stage ≡ NotPolled
+    → Polls other w s0 answer other' s1 → Polls mine w' s1 answer' mine' s2 → IsLike (cancelled other'.stage s2) s3 → IsLawful s3 → IsOwn mine'.stage mine'.size s3.line
+IsOwn-behind other other' mine mine' w w' s0 s1 s2 s3 answer answer' other_fresh fresh other_polled polled like lawful =
+    let other_own = IsOwn-asked other other' w s0 s1 answer other_fresh other_polled in
+    let own = IsOwn-asked mine mine' w' s1 s2 answer' fresh polled in
+    let apart = IsOwn-polls other' s1 s2 other_own mine mine' w' answer' (subst (SlotsDiffer other'.stage) (sym fresh) (SlotsDiffer-new other'.stage)) polled in
+    IsOwn-cancels mine' s2 s3 own other'.stage (SlotsDiffer-back other'.stage mine'.stage apart.1) like lawful

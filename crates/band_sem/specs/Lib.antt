@@ -2,6 +2,7 @@ pub mod Kept
 pub mod Laws
 pub mod Permit
 pub mod Request
+pub mod Requests
 pub mod Semaphore
 pub mod Shown
 pub mod Visits

@@ -1,10 +1,10 @@
 -- The nodes of the line, and what they stand for.
-use Rattle.std.specs.Prelude.{◌≡◌}
+use Rattle.std.specs.Prelude.{◌≡◌, []}
 use Rattle.band_balance.specs.Line.{available}
 use Rattle.band_partial.specs.PartialLine.{StandsFor, debts}
 use Rattle.band_line.specs.WaitList.{WaitListState}
 use Rattle.band_row.specs.declared.wait_node.WaitNode.{WaitNode}
-use Rattle.band_row.specs.Row.{RowState, IsRow, part, linked_nodes}
+use Rattle.band_row.specs.Row.{RowState, IsRow, part, linked_nodes, ended_of}
 use Rattle.band_sem.specs.Semaphore.{SemaphoreState}
 
 -- the nodes with what is available and the wakers to wake
@@ -17,3 +17,5 @@ pub record ShowsLine (state : SemaphoreState) (list : WaitListState WaitNode) : 
   pub stands : StandsFor state.line (part (row_of state list))
   pub debts : state.debts ≡ debts (linked_nodes list)
   pub row : IsRow (row_of state list)
+  -- no request of a semaphore is ended while it waits, so each node that is not linked was granted
+  pub none_ended : ended_of list ≡ []

@@ -16,4 +16,10 @@ pub use permit::SemaphorePermit;
 pub use semaphore::Semaphore;
 
 #[cfg(test)]
+mod callers;
+#[cfg(test)]
+mod debts;
+#[cfg(test)]
+mod mixed;
+#[cfg(test)]
 mod tests;

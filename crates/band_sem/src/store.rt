@@ -11,7 +11,7 @@ use crate::ReduceError;
 use crate::balance::Balance;
 use band_base::{Steps, Waker};
 use band_line::{WaitList, WaiterId};
-use band_row::{Row, WaitNode};
+use band_row::{Found, Row, WaitNode};
 use std::alloc::{AllocError, Global};
 use std::sync::ledger::Ledger;
 
@@ -319,9 +319,14 @@ impl Store {
         ensures sound { IsSound self.new }
         ensures visits { Visits 1 2 steps.old steps.new }
     {
-        let size = self.row.poll(slot, waker, steps)?;
-        self.held += size;
-        Some(size)
+        match self.row.poll(slot, waker, steps) {
+            Found::Granted(size) => {
+                self.held += size;
+                Some(size)
+            }
+            Found::Waits => None,
+            Found::Ended => unreachable!(),
+        }
     }
 
     /// Ends the request under this slot. Then the line settles.

@@ -3,7 +3,7 @@ ghost use Rattle.std.specs.Prelude.{◌≡◌, ◌+◌, ◌<◌, ◌≤◌, IsTr
 ghost use Rattle.band_balance.specs.Line.{is_served};
 ghost use Rattle.band_base.specs.declared.poll.Poll.TheVariants as poll;
 ghost use Rattle.band_sem.specs.Permit.{new_permit};
-ghost use Rattle.band_sem.specs.Semaphore.{IsLike, IsLawful, IsOwn, Polls, taken, released, reduced};
+ghost use Rattle.band_sem.specs.Semaphore.{IsLike, IsLawful, IsOwn, Polls, taken, released};
 
 use crate::{Acquire, MergeError, ReduceError, ReleaseError, Semaphore, SemaphorePermit};
 use band_base::{Poll, PollError, Steps, Waker};
@@ -119,16 +119,6 @@ fn adds<L: Ledger, R: Abort>(rt: &R, sem: &mut Semaphore, n: u64, steps: &mut St
     ensures lawful { IsLawful sem.new }
 {
     if let Err(error) = sem.release(n, steps) {
-        panic!(rt; "{error}");
-    }
-}
-
-/// Takes permits away, which are owed where they are not there.
-fn owes<L: Ledger, R: Abort>(rt: &R, sem: &mut Semaphore, n: u64, steps: &mut Steps<L>)
-    ensures state { sem.new ≡ reduced n sem.old }
-    ensures lawful { IsLawful sem.new }
-{
-    if let Err(error) = sem.reduce_permits(n, steps) {
         panic!(rt; "{error}");
     }
 }
@@ -280,53 +270,6 @@ fn comes_and_goes<L: Ledger, R: Abort>(rt: &R, alloc: Global, blank: Blank)
 #[test]
 fn permits_come_and_go(rt: HostRuntime) {
     comes_and_goes::<Brand, HostRuntime>(&rt, rt.alloc(), Blank::new(1));
-}
-
-/// A debt stands in front of one that waits, is paid first, and leaves the share of that one alone.
-fn pays_first<L: Ledger, R: Abort>(rt: &R, alloc: Global, blank: Blank)
-    requires name { blank.name ≡ L.name }
-    requires parts { blank.parts ≡ L.parts }
-    requires some { 0 < blank.parts }
-{
-    let mut steps: Steps<L> = Steps::new(blank);
-    let mut sem = Semaphore::new(alloc, 5, 1);
-    let mut three = sem.acquire(3);
-    pends(rt, &mut three, &mut sem, Waker(7), &mut steps);
-    owes(rt, &mut sem, 2, &mut steps);
-    assert_eq!(rt; sem.line().occupied_len(), 2);
-    adds(rt, &mut sem, 2, &mut steps);
-    assert_eq!(rt; sem.free(), 1);
-    assert_eq!(rt; sem.available_permits(), 0);
-    assert_eq!(rt; sem.line().occupied_len(), 1);
-    three.cancel(&mut sem, &mut steps);
-    assert_eq!(rt; sem.available_permits(), 1);
-    assert_eq!(rt; sem.line().occupied_len(), 0);
-}
-
-#[test]
-fn a_debt_is_paid_before_a_share(rt: HostRuntime) {
-    pays_first::<Brand, HostRuntime>(&rt, rt.alloc(), Blank::new(1));
-}
-
-/// A debt takes a node, which goes with it, each time.
-fn owes_and_pays<L: Ledger, R: Abort>(rt: &R, alloc: Global, blank: Blank)
-    requires name { blank.name ≡ L.name }
-    requires parts { blank.parts ≡ L.parts }
-    requires some { 0 < blank.parts }
-{
-    let mut steps: Steps<L> = Steps::new(blank);
-    let mut sem = Semaphore::new(alloc, 5, 0);
-    for _ in 0..3 {
-        owes(rt, &mut sem, 1, &mut steps);
-        assert_eq!(rt; sem.line().occupied_len(), 1);
-        adds(rt, &mut sem, 1, &mut steps);
-        assert_eq!(rt; sem.line().occupied_len(), 0);
-    }
-}
-
-#[test]
-fn a_paid_debt_leaves_no_node(rt: HostRuntime) {
-    owes_and_pays::<Brand, HostRuntime>(&rt, rt.alloc(), Blank::new(1));
 }
 
 /// What is too much is refused, and so is a permit of another semaphore.

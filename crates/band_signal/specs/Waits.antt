@@ -98,3 +98,15 @@ abbrev pub PollsToken :
 PollsToken true before waker old result token new = (result ≡ Ok (Ready tt)) × (token ≡ None) × (new ≡ old)
 PollsToken false before waker old result token new =
     Polls false tt (life_of before) waker old result (life_of token) new
+
+-- how many registrations a poll visits: the one that it makes, or finds in the set
+abbrev pub visits_of : {T : Type 0} → Result (Poll T) PollError → ℕ
+visits_of (Ok Pending) = 1
+visits_of (Ok (Ready output)) = 0
+visits_of (Err error) = 0
+
+-- and a cancel: the one that it takes out
+abbrev pub visits_out : Bool → Life → ℕ
+visits_out false (Registered slot) = 1
+visits_out false life = 0
+visits_out true life = 0

@@ -1,7 +1,7 @@
 //! The barrier.
-ghost use Rattle.std.specs.Prelude.{◌≡◌, ◌<◌, true, false};
+ghost use Rattle.std.specs.Prelude.{◌≡◌, ◌<◌, ◌+◌, true, false};
 ghost use Rattle.band_signal.specs.Barrier.{new_barrier, new_barrier_wait, has_ended, is_next_last, next_generation, last_generation, PollsBarrier, Arrives};
-ghost use Rattle.band_signal.specs.Waits.{NotPolled, TakesWake, IsOwn, LeavesOthers, cancelled};
+ghost use Rattle.band_signal.specs.Waits.{NotPolled, TakesWake, IsOwn, LeavesOthers, cancelled, visits_of, visits_out};
 
 use crate::{Registration, WaitSet};
 use band_base::{Poll, PollError, Steps, Waker};
@@ -131,6 +131,7 @@ impl BarrierWait {
         ensures own { IsOwn (has_ended self.new barrier.new) self.new.life barrier.new.waits }
         ensures others { barrier.new.generation ≡ barrier.old.generation
             → LeavesOthers self.old.life barrier.old.waits barrier.new.waits }
+        ensures visits { steps.new ≡ steps.old + visits_of result }
     {
         if self.registration.is_not_polled() {
             return self.arrive(barrier, waker, steps);
@@ -158,6 +159,7 @@ impl BarrierWait {
         ensures own { IsOwn (has_ended self.new barrier.new) self.new.life barrier.new.waits }
         ensures others { barrier.new.generation ≡ barrier.old.generation
             → LeavesOthers self.old.life barrier.old.waits barrier.new.waits }
+        ensures visits { steps.new ≡ steps.old + visits_of result }
     {
         if barrier.is_next_last() {
             if barrier.generation == u64::MAX {
@@ -187,6 +189,7 @@ impl BarrierWait {
           waits = cancelled (has_ended self barrier.old) self.life barrier.old.waits;
         } }
         ensures others { LeavesOthers self.life barrier.old.waits barrier.new.waits }
+        ensures visits { steps.new ≡ steps.old + visits_out (has_ended self barrier.old) self.life }
     {
         let BarrierWait {
             generation,

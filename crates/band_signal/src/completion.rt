@@ -1,7 +1,7 @@
 //! The completion.
-ghost use Rattle.std.specs.Prelude.{◌≡◌, ◌<◌, ◌↔◌, IsErr, IfOk, IfErr, OnOk, OnErr, Ok, Err, None};
+ghost use Rattle.std.specs.Prelude.{◌≡◌, ◌<◌, ◌↔◌, ◌+◌, IsErr, IfOk, IfErr, OnOk, OnErr, Ok, Err, None};
 ghost use Rattle.band_signal.specs.Completion.{new_completion, is_complete, completed, with_observer, without_observer, told, abandoned, Shows};
-ghost use Rattle.band_signal.specs.Waits.{NotPolled, TakesWake, IsOwn, Polls, LeavesOthers, cancelled};
+ghost use Rattle.band_signal.specs.Waits.{NotPolled, TakesWake, IsOwn, Polls, LeavesOthers, cancelled, visits_of, visits_out};
 
 use crate::{CountFull, Registration, WaitSet};
 use band_base::{Poll, PollError, Steps, Waker};
@@ -241,6 +241,7 @@ impl CompletionWait {
         ensures same { state.new ≡ record state.old { waits = state.new.waits } }
         ensures own { IsOwn (is_complete state.new) self.new state.new.waits }
         ensures others { LeavesOthers self.old state.old.waits state.new.waits }
+        ensures visits { steps.new ≡ steps.old + visits_of result }
     {
         let is_over = state.outcome.is_some();
         match self
@@ -260,6 +261,7 @@ impl CompletionWait {
           waits = cancelled (is_complete state.old) self state.old.waits;
         } }
         ensures others { LeavesOthers self state.old.waits state.new.waits }
+        ensures visits { steps.new ≡ steps.old + visits_out (is_complete state.old) self }
     {
         let CompletionWait { registration } = self;
         let is_over = state.outcome.is_some();

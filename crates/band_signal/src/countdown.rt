@@ -1,7 +1,7 @@
 //! The countdown.
-ghost use Rattle.std.specs.Prelude.{◌≡◌, ◌↔◌, IsTrue, IsOk, IfErr, None};
+ghost use Rattle.std.specs.Prelude.{◌≡◌, ◌↔◌, ◌+◌, IsTrue, IsOk, IfErr, None};
 ghost use Rattle.band_signal.specs.Countdown.{new_countdown, is_at_zero, comes_to_zero, decremented};
-ghost use Rattle.band_signal.specs.Waits.{all_woken, TakesWake, IsOwn, Polls, PollsToken, LeavesOthers, life_of, cancelled};
+ghost use Rattle.band_signal.specs.Waits.{all_woken, TakesWake, IsOwn, Polls, PollsToken, LeavesOthers, life_of, cancelled, visits_of, visits_out};
 
 use crate::{Registration, WaitSet};
 use band_base::{Poll, PollError, Steps, Waker};
@@ -86,6 +86,7 @@ impl CountdownState {
         ensures count { self.new.count ≡ self.old.count }
         ensures own { IsOwn (is_at_zero self.new) (life_of token.new) self.new.waits }
         ensures others { LeavesOthers (life_of token.old) self.old.waits self.new.waits }
+        ensures visits { steps.new ≡ steps.old + visits_of result }
     {
         if self.count == 0 {
             *token = None;
@@ -105,6 +106,7 @@ impl CountdownState {
         } }
         ensures token { token.new ≡ None }
         ensures others { LeavesOthers (life_of token.old) self.old.waits self.new.waits }
+        ensures visits { steps.new ≡ steps.old + visits_out (is_at_zero self.old) (life_of token.old) }
     {
         if self.count == 0 {
             *token = None;
@@ -126,6 +128,7 @@ impl CountdownState {
         ensures count { self.new.count ≡ self.old.count }
         ensures own { IsOwn (is_at_zero self.new) wait.new self.new.waits }
         ensures others { LeavesOthers wait.old self.old.waits self.new.waits }
+        ensures visits { steps.new ≡ steps.old + visits_of result }
     {
         wait.poll(&mut self.waits, self.count == 0, waker, steps)
     }
@@ -137,6 +140,7 @@ impl CountdownState {
           waits = cancelled (is_at_zero self.old) wait self.old.waits;
         } }
         ensures others { LeavesOthers wait self.old.waits self.new.waits }
+        ensures visits { steps.new ≡ steps.old + visits_out (is_at_zero self.old) wait }
     {
         wait.cancel(&mut self.waits, self.count == 0, steps);
     }

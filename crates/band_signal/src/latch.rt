@@ -1,7 +1,7 @@
 //! The latch.
-ghost use Rattle.std.specs.Prelude.{◌≡◌, ◌↔◌, IsOk, IfErr};
+ghost use Rattle.std.specs.Prelude.{◌≡◌, ◌↔◌, ◌+◌, IsOk, IfErr};
 ghost use Rattle.band_signal.specs.Countdown.{new_countdown, is_at_zero, arrived};
-ghost use Rattle.band_signal.specs.Waits.{NotPolled, TakesWake, IsOwn, Polls, LeavesOthers, cancelled};
+ghost use Rattle.band_signal.specs.Waits.{NotPolled, TakesWake, IsOwn, Polls, LeavesOthers, cancelled, visits_of, visits_out};
 
 use crate::{CountdownState, Registration};
 use band_base::{Poll, PollError, Steps, Waker};
@@ -109,6 +109,7 @@ impl LatchWait {
         ensures count { latch.new.count ≡ latch.old.count }
         ensures own { IsOwn (is_at_zero latch.new) self.new latch.new.waits }
         ensures others { LeavesOthers self.old latch.old.waits latch.new.waits }
+        ensures visits { steps.new ≡ steps.old + visits_of result }
     {
         latch.countdown.poll(&mut self.registration, waker, steps)
     }
@@ -120,6 +121,7 @@ impl LatchWait {
           waits = cancelled (is_at_zero latch.old) self latch.old.waits;
         } }
         ensures others { LeavesOthers self latch.old.waits latch.new.waits }
+        ensures visits { steps.new ≡ steps.old + visits_out (is_at_zero latch.old) self }
     {
         let LatchWait { registration } = self;
         latch.countdown.cancel(registration, steps);

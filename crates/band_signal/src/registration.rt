@@ -1,6 +1,6 @@
 //! A wait's life.
-ghost use Rattle.std.specs.Prelude.{◌≡◌, ◌↔◌, IsTrue};
-ghost use Rattle.band_signal.specs.Waits.{NotPolled, Finished, Polls, IsOwn, LeavesOthers, cancelled};
+ghost use Rattle.std.specs.Prelude.{◌≡◌, ◌↔◌, ◌+◌, IsTrue};
+ghost use Rattle.band_signal.specs.Waits.{NotPolled, Finished, Polls, IsOwn, LeavesOthers, cancelled, visits_of, visits_out};
 
 use crate::WaitSet;
 use band_base::{Poll, PollError, Steps, Waker};
@@ -60,6 +60,7 @@ impl Registration {
         ensures polls { Polls is_over tt self.old waker waits.old result self.new waits.new }
         ensures own { IsOwn is_over self.new waits.new }
         ensures others { LeavesOthers self.old waits.old waits.new }
+        ensures visits { steps.new ≡ steps.old + visits_of result }
     {
         if self.is_finished {
             return Err(PollError::Finished);
@@ -79,6 +80,7 @@ impl Registration {
         requires own { IsOwn is_over self waits.old }
         ensures state { waits.new ≡ cancelled is_over self waits.old }
         ensures others { LeavesOthers self waits.old waits.new }
+        ensures visits { steps.new ≡ steps.old + visits_out is_over self }
     {
         if !is_over && !self.is_finished {
             waits.unregister(&mut self.token, steps);

@@ -1,9 +1,9 @@
 //! The shutdown.
-ghost use Rattle.std.specs.Prelude.{◌≡◌, ◌<◌, ◌↔◌, IsTrue, IsErr, IfOk, OnOk, OnErr};
+ghost use Rattle.std.specs.Prelude.{◌≡◌, ◌<◌, ◌↔◌, ◌+◌, IsTrue, IsErr, IfOk, OnOk, OnErr};
 ghost use Rattle.band_signal.specs.Countdown.{is_at_zero};
 ghost use Rattle.band_signal.specs.Group.{is_deserted, with_handle, without_handle};
 ghost use Rattle.band_signal.specs.Shutdown.{new_shutdown, is_requested, requested, TakesFirstWake, RequestsUnless};
-ghost use Rattle.band_signal.specs.Waits.{NotPolled, IsOwn, Polls, LeavesOthers, cancelled};
+ghost use Rattle.band_signal.specs.Waits.{NotPolled, IsOwn, Polls, LeavesOthers, cancelled, visits_of, visits_out};
 
 use crate::{CountFull, CountdownState, Registration, Wait, WaitGroup, WaitGroupState};
 use band_base::{Poll, PollError, Steps, Waker};
@@ -199,6 +199,7 @@ impl Shutdown {
         ensures requests { RequestsUnless result state.old state.new }
         ensures own { IsOwn (is_deserted state.new.guards) self.new state.new.guards.waits }
         ensures others { LeavesOthers self.old state.old.guards.waits state.new.guards.waits }
+        ensures visits { steps.new ≡ steps.old + visits_of result }
     {
         let answer = self.wait.poll(&mut state.guards, waker, steps)?;
         state.request_shutdown();
@@ -214,6 +215,7 @@ impl Shutdown {
           };
         } }
         ensures others { LeavesOthers self state.old.guards.waits state.new.guards.waits }
+        ensures visits { steps.new ≡ steps.old + visits_out (is_deserted state.old.guards) self }
     {
         let Shutdown { wait } = self;
         wait.cancel(&mut state.guards, steps);
@@ -266,6 +268,7 @@ impl RequestedWait {
         } }
         ensures own { IsOwn (is_requested state.new) self.new state.new.request.waits }
         ensures others { LeavesOthers self.old state.old.request.waits state.new.request.waits }
+        ensures visits { steps.new ≡ steps.old + visits_of result }
     {
         state.request.poll(&mut self.registration, waker, steps)
     }
@@ -279,6 +282,7 @@ impl RequestedWait {
           };
         } }
         ensures others { LeavesOthers self state.old.request.waits state.new.request.waits }
+        ensures visits { steps.new ≡ steps.old + visits_out (is_requested state.old) self }
     {
         let RequestedWait { registration } = self;
         state.request.cancel(registration, steps);

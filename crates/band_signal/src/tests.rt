@@ -182,11 +182,45 @@ fn completion_ends<L: Ledger, R: Abort>(rt: &R, alloc: Global, blank: Blank)
     let mut wait = observer.wait();
     assert!(rt; is_pending(wait.poll(&mut state, Waker(1), &mut steps)));
     assert!(rt; state.result().is_none());
+    assert_eq!(rt; number(state.take_wake()), 0);
     assert_eq!(rt; state.complete(completer, 7), Ok(()));
     assert_eq!(rt; number(state.take_wake()), 1);
-    assert!(rt; is_ready(wait.poll(&mut state, Waker(1), &mut steps)));
+    assert_eq!(rt; number(state.take_wake()), 0);
+    assert!(rt; is_told_of_a_value(wait.poll(&mut state, Waker(1), &mut steps)));
+    assert!(rt; is_finished(wait.poll(&mut state, Waker(1), &mut steps)));
     assert!(rt; matches!(state.result(), Some(Ok(7))));
     wait.cancel(&mut state, &mut steps);
+    observer.lose();
+}
+
+fn is_told_of_a_value(answer: Result<Poll<Result<(), Abandoned>>, PollError>) -> bool {
+    matches!(answer, Ok(Poll::Ready(Ok(()))))
+}
+
+fn is_told_of_none(answer: Result<Poll<Result<(), Abandoned>>, PollError>) -> bool {
+    matches!(answer, Ok(Poll::Ready(Err(Abandoned))))
+}
+
+/// A completer that ends without a value tells who waits, and who asks later.
+fn abandoned_is_told<L: Ledger, R: Abort>(rt: &R, alloc: Global, blank: Blank)
+    requires name { blank.name ≡ L.name }
+    requires parts { blank.parts ≡ L.parts }
+    requires some { 0 < blank.parts }
+{
+    let mut steps: Steps<L> = Steps::new(blank);
+    let (mut state, completer, observer): (CompletionState<u64>, Completer, Completion) =
+        CompletionState::new(alloc, 9);
+    let mut wait = observer.wait();
+    assert!(rt; is_pending(wait.poll(&mut state, Waker(1), &mut steps)));
+    state.abandon(completer);
+    assert_eq!(rt; number(state.take_wake()), 1);
+    assert_eq!(rt; number(state.take_wake()), 0);
+    assert!(rt; is_told_of_none(wait.poll(&mut state, Waker(1), &mut steps)));
+    assert!(rt; matches!(state.result(), Some(Err(Abandoned))));
+    let mut late = observer.wait();
+    assert!(rt; is_told_of_none(late.poll(&mut state, Waker(2), &mut steps)));
+    wait.lose();
+    late.lose();
     observer.lose();
 }
 
@@ -200,12 +234,8 @@ fn unobserved_is_abandoned<R: Abort>(rt: &R, alloc: Global) {
     }
     state.drop_observer(observer);
     assert_eq!(rt; state.complete(completer, 8), Err(8));
+    assert_eq!(rt; number(state.take_wake()), 0);
     assert!(rt; matches!(state.result(), Some(Err(Abandoned))));
-    let (mut other, completer, observer): (CompletionState<u64>, Completer, Completion) =
-        CompletionState::new(alloc, 9);
-    other.abandon(completer);
-    assert!(rt; matches!(other.result(), Some(Err(Abandoned))));
-    observer.lose();
 }
 
 #[test]
@@ -233,6 +263,7 @@ fn the_shutdown_ends(rt: HostRuntime) {
 #[test]
 fn the_completion_ends(rt: HostRuntime) {
     completion_ends::<Brand, HostRuntime>(&rt, rt.alloc(), Blank::new(1));
+    abandoned_is_told::<Brand, HostRuntime>(&rt, rt.alloc(), Blank::new(1));
     unobserved_is_abandoned(&rt, rt.alloc());
 }
 

@@ -1,7 +1,7 @@
 //! The wait group.
-ghost use Rattle.std.specs.Prelude.{◌≡◌, ◌<◌, ◌↔◌, IsErr, IfOk, OnOk, OnErr};
+ghost use Rattle.std.specs.Prelude.{◌≡◌, ◌<◌, ◌↔◌, ◌+◌, IsErr, IfOk, OnOk, OnErr};
 ghost use Rattle.band_signal.specs.Group.{new_group, is_deserted, with_handle, without_handle};
-ghost use Rattle.band_signal.specs.Waits.{NotPolled, TakesWake, IsOwn, Polls, LeavesOthers, cancelled};
+ghost use Rattle.band_signal.specs.Waits.{NotPolled, TakesWake, IsOwn, Polls, LeavesOthers, cancelled, visits_of, visits_out};
 
 use crate::{CountFull, Registration, WaitSet};
 use band_base::{Poll, PollError, Steps, Waker};
@@ -159,6 +159,7 @@ impl Wait {
         ensures same { group.new ≡ record group.old { waits = group.new.waits } }
         ensures own { IsOwn (is_deserted group.new) self.new group.new.waits }
         ensures others { LeavesOthers self.old group.old.waits group.new.waits }
+        ensures visits { steps.new ≡ steps.old + visits_of result }
     {
         self.registration
             .poll(&mut group.waits, group.handles == 0, waker, steps)
@@ -171,6 +172,7 @@ impl Wait {
           waits = cancelled (is_deserted group.old) self group.old.waits;
         } }
         ensures others { LeavesOthers self group.old.waits group.new.waits }
+        ensures visits { steps.new ≡ steps.old + visits_out (is_deserted group.old) self }
     {
         let Wait { registration } = self;
         registration.cancel(&mut group.waits, group.handles == 0, steps);

@@ -1,8 +1,8 @@
 //! The waits that are registered, and the wakers to wake.
-ghost use Rattle.std.specs.Prelude.{◌≡◌, ◌≤◌, ◌+◌, OnOk, None, IsSome, false};
+ghost use Rattle.std.specs.Prelude.{◌≡◌, ◌≤◌, ◌+◌, OnOk, None, IsSome, false, is_ok, if◌then◌else◌};
 ghost use Rattle.std.specs.Option.{ForSome};
 ghost use Rattle.band_line.specs.Arena.{value_at};
-ghost use Rattle.band_signal.specs.Waits.{no_waits, all_woken, TakesWake, IsOwn, LeavesOthers, life_of, cancelled};
+ghost use Rattle.band_signal.specs.Waits.{no_waits, all_woken, TakesWake, IsOwn, LeavesOthers, life_of, cancelled, visits_out};
 ghost use Rattle.band_signal.specs.Kept.WaitSet.{Registers};
 
 use band_base::{Steps, WakeLine, Waker};
@@ -66,6 +66,7 @@ impl WaitSet {
         ensures registers { Registers token.old waker self.old result token.new self.new }
         ensures own { IsOwn false (life_of token.new) self.new }
         ensures others { LeavesOthers (life_of token.old) self.old self.new }
+        ensures visits { steps.new ≡ steps.old + (if is_ok result then 1 else 0) }
     {
         if token.is_none() {
             reserve_wake(&mut self.wakes, self.wakers.len())?;
@@ -80,6 +81,7 @@ impl WaitSet {
         ensures state { self.new ≡ cancelled false (life_of token.old) self.old }
         ensures token { token.new ≡ None }
         ensures others { LeavesOthers (life_of token.old) self.old self.new }
+        ensures visits { steps.new ≡ steps.old + visits_out false (life_of token.old) }
     {
         self.wakers.unregister(token, steps);
     }

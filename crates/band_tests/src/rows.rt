@@ -3,6 +3,7 @@
 use crate::examples::{FIRST, FIRST_OUT, LOCKS, LOCKS_OUT, make_burst};
 use crate::playing::{compare, play_on, play_word, run_on};
 use band_base::{BytesIn, BytesOut, Source};
+use band_play::bulk_script;
 use std::test::Fail;
 
 const REFUSED: &str = "sem s 1\nsem s 1\nask s s 1 1\npoll x 1\ndrop s\nask a s 0 1\npoll a 1\n";
@@ -153,7 +154,15 @@ fn answers_a_status(rt: HostRuntime) -> Result<(), Fail> {
 
 #[test]
 fn refuses_other_words(rt: HostRuntime) -> Result<(), Fail> {
-    for text in ["", "play play", "bulk 5"] {
+    for text in [
+        "",
+        "play play",
+        "bulk",
+        "bulk 0",
+        "bulk 200001",
+        "bulk 05",
+        "bulk 5 5",
+    ] {
         let mut words = Vec::new(rt.alloc());
         for word in text.split_whitespace() {
             words.push(String::from_str(rt.alloc(), word)?)?;
@@ -164,5 +173,34 @@ fn refuses_other_words(rt: HostRuntime) -> Result<(), Fail> {
         assert_eq!(rt; dst.bytes().len(), 0);
         assert_eq!(rt; src.read(&mut [0; 100])?, FIRST.len());
     }
+    Ok(())
+}
+
+#[test]
+fn sums_up_a_bulk_script(rt: HostRuntime) -> Result<(), Fail> {
+    let table = [
+        ("1", "lines 4 bytes 27 wakes 1\n"),
+        ("5", "lines 12 bytes 101 wakes 4\n"),
+    ];
+    for (number, summary) in table {
+        let mut words = Vec::new(rt.alloc());
+        for word in ["bulk", number] {
+            words.push(String::from_str(rt.alloc(), word)?)?;
+        }
+        let mut dst = BytesOut::new(rt.alloc());
+        let mut src = BytesIn::new(FIRST.as_bytes());
+        assert_eq!(rt; run_on(rt.alloc(), &words, &mut src, &mut dst), 0);
+        assert_eq!(rt; dst.bytes(), summary.as_bytes());
+        assert_eq!(rt; src.read(&mut [0; 100])?, FIRST.len());
+    }
+    Ok(())
+}
+
+#[test]
+fn makes_the_bulk_script(rt: HostRuntime) -> Result<(), Fail> {
+    let script = bulk_script(rt.alloc(), 5)?;
+    let lines =
+        "sem s 0\nask r1 s 2 1\nask r2 s 3 2\nask r3 s 1 3\nask r4 s 2 4\nask r5 s 3 5\ndrop r5\nrelease s 10\npoll r1 0\npoll r2 0\npoll r3 0\npoll r4 0\n";
+    assert_eq!(rt; script.as_slice(), lines.as_bytes());
     Ok(())
 }

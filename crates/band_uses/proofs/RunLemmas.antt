@@ -1,14 +1,16 @@
 -- What the promise of the program says of each status.
-use Rattle.std.proofs.Common.{◌≡◌, ◌≢◌, ℕ, ◌≤◌, ◌⊎◌, inl, inr, List, [], ◌∷◌, ◌++◌, codes, Option, Some, None, Result, Ok, Err, refl, sym, subst, ap, ◌∙◌, append-nil, arith}
-use Rattle.std.proofs.KnownBytes.{Appends-nil}
+use Rattle.std.proofs.Common.{◌≡◌, ◌≢◌, ℕ, ◌+◌, ◌≤◌, ◌⊎◌, inl, inr, List, [], ◌∷◌, ◌++◌, length, Option, Some, None, Result, Ok, Err, refl, sym, subst, ap, ◌∙◌, append-nil, arith}
+use Rattle.std.specs.Option.{unwrap_or}
 use Rattle.band_base.specs.Device.{AppendsPrefix}
 use Rattle.band_play.specs.declared.fault.PlayFault.{PlayFault}
 use Rattle.band_play.specs.declared.fault.PlayFault.TheVariants as faults
-use Rattle.band_play.specs.Play.{End, HasFailed, Gave, KeepsUp, Plays, Told, ToldWith, EndsWith, Runs, status_of, program_limit}
+use Rattle.band_play.specs.Play.{End, HasFailed, Gave, KeepsUp, Plays, SumsUp, Told, ToldWith, EndsWith, AskToPlay, AskForBulk, AreOthers, Runs, status_of, program_limit}
+use Rattle.band_script.specs.declared.call.Call.{Call}
+use Rattle.band_play.specs.Bulk.{bulk_calls}
 use Rattle.band_play.specs.Text.{fault_text, usage_text}
-use Rattle.band_rules.specs.Script.{verdict, calls_within, transcript}
+use Rattle.band_rules.specs.Script.{verdict}
 use Rattle.band_uses.specs.Outcome.{answer_of, exit_of}
-use Rattle.band_uses.proofs.PlayLemmas.{says_outcome}
+use Rattle.band_uses.proofs.PlayLemmas.{says_outcome, takes_of}
 
 bounds : (fault : PlayFault) → (3 ≤ status_of fault) × (status_of fault ≤ 7)
 bounds (faults.Malformed line) = (omega arith, omega arith)
@@ -46,28 +48,63 @@ exit_zero : (answer : Result ℕ PlayFault) → exit_of answer ≡ 0 → (lines 
 exit_zero (Ok lines) zero = (lines, refl)
 exit_zero (Err fault) zero = absurd (omega (arith, zero, (bounds fault).0))
 
+-- no words ask for both
+play_or_bulk : (n : ℕ) (words : List (List ℕ)) → AskToPlay words → AskForBulk n words → ⊥
+play_or_bulk n words play bulk = omega (arith, ap length (sym play ∙ bulk.0))
+
 -- 2 comes with other words alone, which come to 2 or 7
-pub usage_of : (words : List (List ℕ)) (source sink told : End) (status : ℕ) → Runs words source sink told status → status ≡ 2 → words ≢ codes "play" ∷ []
-usage_of words source sink told status (inl ran) two = absurd (not_two (exit_is ran.1.0 status told ran.1.2))
+not_two : (answer : Result ℕ PlayFault) (status : ℕ) (told : End) → EndsWith answer status told → status ≢ 2
+not_two answer status told ends two = by_exit (exit_is answer status told ends)
   where
-    not_two : (status ≡ exit_of ran.1.0) ⊎ (status ≡ 7) → ⊥
-    not_two (inl is) = exit_not_two ran.1.0 (sym is ∙ two)
-    not_two (inr seven) = omega (arith, seven, two)
-usage_of words source sink told status (inr other) two = other.0
+    by_exit : (status ≡ exit_of answer) ⊎ (status ≡ 7) → ⊥
+    by_exit (inl is) = exit_not_two answer (sym is ∙ two)
+    by_exit (inr seven) = omega (arith, seven, two)
 
-pub other_of : (words : List (List ℕ)) (source sink told : End) (status : ℕ) → Runs words source sink told status → words ≢ codes "play" ∷ [] → (status ≡ 2) ⊎ (status ≡ 7)
-other_of words source sink told status (inl ran) not = absurd (not ran.0)
-other_of words source sink told status (inr other) not = own_or_seven 2 status (usage_text ++ 10 ∷ []) told other.1
+pub usage_of : (words : List (List ℕ)) (source sink told : End) (status : ℕ) → Runs words source sink told status → status ≡ 2 → AreOthers words
+usage_of words source sink told status (inl ran) two = absurd (not_two ran.1.0 status told ran.1.2 two)
+usage_of words source sink told status (inr (inl bulk)) two = absurd (not_two bulk.2.0 status told bulk.2.2 two)
+usage_of words source sink told status (inr (inr other)) two = other.0
 
--- `play` ran, where the status is none of the usage's
-ran_where : (words : List (List ℕ)) (source sink told : End) (status : ℕ) → Runs words source sink told status → status ≢ 2 → status ≢ 7
-    → (answer : Result ℕ PlayFault) × Plays program_limit source sink answer × EndsWith answer status told
-ran_where words source sink told status (inl ran) not_two not_seven = ran.1
-ran_where words source sink told status (inr other) not_two not_seven = absurd (neither (own_or_seven 2 status (usage_text ++ 10 ∷ []) told other.1))
+pub other_of : (words : List (List ℕ)) (source sink told : End) (status : ℕ) → Runs words source sink told status → AreOthers words → (status ≡ 2) ⊎ (status ≡ 7)
+other_of words source sink told status (inl ran) others = absurd (others.0 ran.0)
+other_of words source sink told status (inr (inl bulk)) others = absurd (others.1 bulk.0 bulk.1)
+other_of words source sink told status (inr (inr other)) others = own_or_seven 2 status (usage_text ++ 10 ∷ []) told other.1
+
+-- a bulk script comes to 0, 6 or 7
+bulk_exit : (calls : List Call) (answer : Result ℕ PlayFault) (sink told : End) (status : ℕ) → SumsUp calls answer sink → EndsWith answer status told → 3 ≤ status → status ≤ 5 → ⊥
+bulk_exit calls (Ok lines) sink told status sums ends least most = omega (arith, ends, least)
+bulk_exit calls (Err (faults.Malformed line)) sink told status sums ends least most = absurd sums
+bulk_exit calls (Err faults.TooLong) sink told status sums ends least most = absurd sums
+bulk_exit calls (Err faults.Read) sink told status sums ends least most = absurd sums
+bulk_exit calls (Err faults.Write) sink told status sums ends least most = by_exit (exit_is (Err faults.Write) status told ends)
+  where
+    by_exit : (status ≡ 6) ⊎ (status ≡ 7) → ⊥
+    by_exit (inl is) = omega (arith, is, most)
+    by_exit (inr seven) = omega (arith, seven, most)
+bulk_exit calls (Err faults.NoMemory) sink told status sums ends least most = by_exit (exit_is (Err faults.NoMemory) status told ends)
+  where
+    by_exit : (status ≡ 7) ⊎ (status ≡ 7) → ⊥
+    by_exit (inl seven) = omega (arith, seven, most)
+    by_exit (inr seven) = omega (arith, seven, most)
+
+-- how `play` ran
+abbrev Ran : End → End → End → ℕ → Type 0
+Ran source sink told status = (answer : Result ℕ PlayFault) × Plays program_limit source sink answer × EndsWith answer status told
+
+-- it ran where the words ask for it, and with a status that nothing else comes to
+ran_by_words : (words : List (List ℕ)) (source sink told : End) (status : ℕ) → Runs words source sink told status → AskToPlay words → Ran source sink told status
+ran_by_words words source sink told status (inl ran) play = ran.1
+ran_by_words words source sink told status (inr (inl bulk)) play = absurd (play_or_bulk bulk.0 words play bulk.1)
+ran_by_words words source sink told status (inr (inr other)) play = absurd (other.0.0 play)
+
+ran_by_status : (words : List (List ℕ)) (source sink told : End) (status : ℕ) → Runs words source sink told status → 3 ≤ status → status ≤ 5 → Ran source sink told status
+ran_by_status words source sink told status (inl ran) least most = ran.1
+ran_by_status words source sink told status (inr (inl bulk)) least most = absurd (bulk_exit (bulk_calls bulk.0) bulk.2.0 sink told status bulk.2.1 bulk.2.2 least most)
+ran_by_status words source sink told status (inr (inr other)) least most = absurd (neither (own_or_seven 2 status (usage_text ++ 10 ∷ []) told other.1))
   where
     neither : (status ≡ 2) ⊎ (status ≡ 7) → ⊥
-    neither (inl two) = not_two two
-    neither (inr seven) = not_seven seven
+    neither (inl two) = omega (arith, two, least)
+    neither (inr seven) = omega (arith, seven, most)
 
 own_where : (answer : Result ℕ PlayFault) (status : ℕ) (told : End) → EndsWith answer status told → status ≢ 7 → status ≡ exit_of answer
 own_where answer status told ends not_seven = own (exit_is answer status told ends)
@@ -77,9 +114,10 @@ own_where answer status told ends not_seven = own (exit_is answer status told en
     own (inr seven) = absurd (not_seven seven)
 
 -- with status 0
-pub ran_well : (words : List (List ℕ)) (source sink told : End) (status : ℕ) → Runs words source sink told status → status ≡ 0 → (lines : ℕ) × Plays program_limit source sink (Ok lines)
-ran_well words source sink told status runs zero =
-    let ran = ran_where words source sink told status runs (λ two. omega (arith, zero, two)) (λ seven. omega (arith, zero, seven)) in
+pub ran_well : (words : List (List ℕ)) (source sink told : End) (status : ℕ) → Runs words source sink told status → AskToPlay words → status ≡ 0
+    → (lines : ℕ) × Plays program_limit source sink (Ok lines)
+ran_well words source sink told status runs play zero =
+    let ran = ran_by_words words source sink told status runs play in
     let own = own_where ran.0 status told ran.2 (λ seven. omega (arith, zero, seven)) in
     let well = exit_zero ran.0 (sym own ∙ zero) in
     let P : Result ℕ PlayFault → Type 0 = λ a. Plays program_limit source sink a in
@@ -93,11 +131,11 @@ ran_badly_by (Err fault) source sink told status plays ends least most =
     let own = told_where (status_of fault) status (fault_text fault ++ 10 ∷ []) told ends (λ seven. omega (arith, seven, most)) in
     (fault, plays, own.0, own.1)
 
-ran_badly : (words : List (List ℕ)) (source sink told : End) (status : ℕ) → Runs words source sink told status → 3 ≤ status → status ≤ 6
+ran_badly : (words : List (List ℕ)) (source sink told : End) (status : ℕ) → Runs words source sink told status → 3 ≤ status → status ≤ 5
     → (fault : PlayFault) × Plays program_limit source sink (Err fault) × (status ≡ status_of fault) × Told (fault_text fault ++ 10 ∷ []) told
 ran_badly words source sink told status runs least most =
-    let ran = ran_where words source sink told status runs (λ two. omega (arith, two, least)) (λ seven. omega (arith, seven, most)) in
-    ran_badly_by ran.0 source sink told status ran.1 ran.2 least most
+    let ran = ran_by_status words source sink told status runs least most in
+    ran_badly_by ran.0 source sink told status ran.1 ran.2 least (omega (arith, most))
 
 -- the fault that a status tells
 malformed_at : (fault : PlayFault) → status_of fault ≡ 3 → (line : ℕ) × (fault ≡ faults.Malformed line)
@@ -154,15 +192,40 @@ ran_unread words source sink told status runs is =
     let ran = ran_badly words source sink told status runs (omega (arith, is)) (omega (arith, is)) in
     ends_in faults.Read ran.0 source sink told (read_at ran.0 (sym ran.2 ∙ is)) ran.1 ran.3
 
-pub ran_unwritten : (words : List (List ℕ)) (source sink told : End) (status : ℕ) → Runs words source sink told status → status ≡ 6 → EndsIn faults.Write source sink told
-ran_unwritten words source sink told status runs is =
-    let ran = ran_badly words source sink told status runs (omega (arith, is)) (omega (arith, is)) in
-    ends_in faults.Write ran.0 source sink told (write_at ran.0 (sym ran.2 ∙ is)) ran.1 ran.3
+-- a sink that failed, and was told of so
+abbrev pub Unwritten : End → End → Type 0
+Unwritten sink told = HasFailed sink × Told (fault_text faults.Write ++ 10 ∷ []) told
+
+bulk_unwritten : (calls : List Call) (answer : Result ℕ PlayFault) (sink told : End) (status : ℕ) → SumsUp calls answer sink → EndsWith answer status told → status ≡ 6 → Unwritten sink told
+bulk_unwritten calls (Ok lines) sink told status sums ends six = absurd (omega (arith, ends, six))
+bulk_unwritten calls (Err (faults.Malformed line)) sink told status sums ends six = absurd sums
+bulk_unwritten calls (Err faults.TooLong) sink told status sums ends six = absurd sums
+bulk_unwritten calls (Err faults.Read) sink told status sums ends six = absurd sums
+bulk_unwritten calls (Err faults.Write) sink told status sums ends six =
+    (sums.0, (told_where 6 status (fault_text faults.Write ++ 10 ∷ []) told ends (λ seven. omega (arith, seven, six))).1)
+bulk_unwritten calls (Err faults.NoMemory) sink told status sums ends six = by_exit (exit_is (Err faults.NoMemory) status told ends)
+  where
+    by_exit : (status ≡ 7) ⊎ (status ≡ 7) → Unwritten sink told
+    by_exit (inl seven) = absurd (omega (arith, seven, six))
+    by_exit (inr seven) = absurd (omega (arith, seven, six))
+
+pub ran_unwritten : (words : List (List ℕ)) (source sink told : End) (status : ℕ) → Runs words source sink told status → status ≡ 6 → Unwritten sink told
+ran_unwritten words source sink told status (inl ran) is =
+    let bad = ran_badly_by ran.1.0 source sink told status ran.1.1 ran.1.2 (omega (arith, is)) (omega (arith, is)) in
+    let ends = ends_in faults.Write bad.0 source sink told (write_at bad.0 (sym bad.2 ∙ is)) bad.1 bad.3 in
+    (ends.0.answers, ends.1)
+ran_unwritten words source sink told status (inr (inl bulk)) is = bulk_unwritten (bulk_calls bulk.0) bulk.2.0 sink told status bulk.2.1 bulk.2.2 is
+ran_unwritten words source sink told status (inr (inr other)) is = absurd (neither (own_or_seven 2 status (usage_text ++ 10 ∷ []) told other.1))
+  where
+    neither : (status ≡ 2) ⊎ (status ≡ 7) → ⊥
+    neither (inl two) = omega (arith, two, is)
+    neither (inr seven) = omega (arith, seven, is)
 
 -- with status 2, and with 7
 pub tells_usage : (words : List (List ℕ)) (source sink told : End) (status : ℕ) → Runs words source sink told status → status ≡ 2 → Told (usage_text ++ 10 ∷ []) told
-tells_usage words source sink told status (inl ran) two = absurd (usage_of words source sink told status (inl ran) two ran.0)
-tells_usage words source sink told status (inr other) two = (told_where 2 status (usage_text ++ 10 ∷ []) told other.1 (λ seven. omega (arith, two, seven))).1
+tells_usage words source sink told status (inl ran) two = absurd (not_two ran.1.0 status told ran.1.2 two)
+tells_usage words source sink told status (inr (inl bulk)) two = absurd (not_two bulk.2.0 status told bulk.2.2 two)
+tells_usage words source sink told status (inr (inr other)) two = (told_where 2 status (usage_text ++ 10 ∷ []) told other.1 (λ seven. omega (arith, two, seven))).1
 
 tells_front_by : (answer : Result ℕ PlayFault) (told : End) (status : ℕ) → EndsWith answer status told → status ≡ 7
     → (fault : PlayFault) × AppendsPrefix (fault_text fault ++ 10 ∷ []) told.before told.after
@@ -172,51 +235,45 @@ tells_front_by (Err fault) told status ends seven = (fault, told_front (status_o
 pub tells_front : (words : List (List ℕ)) (source sink told : End) (status : ℕ) → Runs words source sink told status → status ≡ 7
     → AppendsPrefix (usage_text ++ 10 ∷ []) told.before told.after ⊎ ((fault : PlayFault) × AppendsPrefix (fault_text fault ++ 10 ∷ []) told.before told.after)
 tells_front words source sink told status (inl ran) seven = inr (tells_front_by ran.1.0 told status ran.1.2 seven)
-tells_front words source sink told status (inr other) seven = inl (told_front 2 status (usage_text ++ 10 ∷ []) told other.1)
+tells_front words source sink told status (inr (inl bulk)) seven = inr (tells_front_by bulk.2.0 told status bulk.2.2 seven)
+tells_front words source sink told status (inr (inr other)) seven = inl (told_front 2 status (usage_text ++ 10 ∷ []) told other.1)
 
 -- whatever the status is
-nothing_given : (limit : ℕ) (left written : Option (List ℕ)) → Gave (λ given. KeepsUp limit given written written) left left
-nothing_given limit None written = tt
-nothing_given limit (Some bytes) written = (
-  [],
-  refl,
-  record {
-    takes = omega arith;
-    front = record { prefix = []; rest = transcript (calls_within limit []); whole = refl; appended = Appends-nil written };
-    played = [];
-    end = [];
-    whole = refl;
-    most = omega arith;
-    within = omega arith;
-    each = tt;
-    answered = ([], Appends-nil written);
-  },
-)
+pub ran_keeps_up : (words : List (List ℕ)) (source sink told : End) (status : ℕ) → Runs words source sink told status → AskToPlay words
+    → Gave (λ given. KeepsUp program_limit given sink.before sink.after) source.before source.after
+ran_keeps_up words source sink told status runs play = (ran_by_words words source sink told status runs play).1.keeps_up
 
-pub ran_keeps_up : (words : List (List ℕ)) (source sink told : End) (status : ℕ) → Runs words source sink told status
-    → (words ≢ codes "play" ∷ [] → (source.after ≡ source.before) × (sink.after ≡ sink.before)) → Gave (λ given. KeepsUp program_limit given sink.before sink.after) source.before source.after
-ran_keeps_up words source sink told status (inl ran) untouched = ran.1.1.keeps_up
-ran_keeps_up words source sink told status (inr other) untouched =
-    let same = untouched other.0 in
-    let P : Option (List ℕ) → Type 0 = λ left. Gave (λ given. KeepsUp program_limit given sink.before sink.before) source.before left in
-    let Q : Option (List ℕ) → Type 0 = λ written. Gave (λ given. KeepsUp program_limit given sink.before written) source.before source.after in
-    subst Q (sym same.1) (subst P (sym same.0) (nothing_given program_limit source.before sink.before))
+-- with other words nothing was read
+none_taken : (limit : ℕ) (before after : Option (List ℕ)) → after ≡ before → Gave (λ given. length given ≤ limit + 1) before after
+none_taken limit None after is = tt
+none_taken limit (Some bytes) None is = cc
+none_taken limit (Some bytes) (Some left) is = let same : left ≡ bytes = option_eq is in ([], sym same, omega arith)
+  where
+    option_eq : {a b : List ℕ} → Some a ≡ Some b → a ≡ b
+    option_eq e = ap (λ o. unwrap_or o []) e
 
-pub ran_never_falls : (words : List (List ℕ)) (source sink told : End) (status : ℕ) → Runs words source sink told status
-    → (words ≢ codes "play" ∷ [] → (source.faults_now ≡ source.faults) × (sink.faults_now ≡ sink.faults)) → (source.faults ≤ source.faults_now) × (sink.faults ≤ sink.faults_now)
-ran_never_falls words source sink told status (inl ran) untouched = (ran.1.1.reads_never_fall, ran.1.1.writes_never_fall)
-ran_never_falls words source sink told status (inr other) untouched =
-    let same = untouched other.0 in
-    (omega (arith, same.0), omega (arith, same.1))
+pub ran_takes : (words : List (List ℕ)) (source sink told : End) (status : ℕ) → Runs words source sink told status → ((AskToPlay words → ⊥) → source.after ≡ source.before)
+    → Gave (λ given. length given ≤ program_limit + 1) source.before source.after
+ran_takes words source sink told status (inl ran) unread = takes_of _ _ _ _ _ ran.1.1.keeps_up
+ran_takes words source sink told status (inr (inl bulk)) unread = none_taken program_limit _ _ (unread (λ play. play_or_bulk bulk.0 words play bulk.1))
+ran_takes words source sink told status (inr (inr other)) unread = none_taken program_limit _ _ (unread other.0.0)
+
+pub reads_never_fall : (words : List (List ℕ)) (source sink told : End) (status : ℕ) → Runs words source sink told status
+    → ((AskToPlay words → ⊥) → source.faults_now ≡ source.faults) → source.faults ≤ source.faults_now
+reads_never_fall words source sink told status (inl ran) unread = ran.1.1.reads_never_fall
+reads_never_fall words source sink told status (inr (inl bulk)) unread = omega (arith, unread (λ play. play_or_bulk bulk.0 words play bulk.1))
+reads_never_fall words source sink told status (inr (inr other)) unread = omega (arith, unread other.0.0)
 
 -- where neither end has failed
-pub ran_completes : (words : List (List ℕ)) (source sink told : End) (status : ℕ) → Runs words source sink told status → words ≡ codes "play" ∷ [] → (HasFailed source → ⊥)
+pub ran_completes : (words : List (List ℕ)) (source sink told : End) (status : ℕ) → Runs words source sink told status → AskToPlay words → (HasFailed source → ⊥)
     → (HasFailed sink → ⊥) → (bytes : List ℕ) → source.before ≡ Some bytes → (status ≡ exit_of (answer_of (verdict program_limit bytes))) ⊎ (status ≡ 7)
-ran_completes words source sink told status (inr other) is reads writes bytes tells = absurd (other.0 is)
-ran_completes words source sink told status (inl ran) is reads writes bytes tells =
-    completes (says_outcome ran.1.0 program_limit source sink ran.1.1 reads writes bytes tells) (exit_is ran.1.0 status told ran.1.2)
+ran_completes words source sink told status runs play reads writes bytes tells =
+    completes (says_outcome ran.0 program_limit source sink ran.1 reads writes bytes tells) (exit_is ran.0 status told ran.2)
   where
-    completes : (ran.1.0 ≡ answer_of (verdict program_limit bytes)) ⊎ (ran.1.0 ≡ Err faults.NoMemory) → (status ≡ exit_of ran.1.0) ⊎ (status ≡ 7)
+    ran : Ran source sink told status
+    ran = ran_by_words words source sink told status runs play
+
+    completes : (ran.0 ≡ answer_of (verdict program_limit bytes)) ⊎ (ran.0 ≡ Err faults.NoMemory) → (status ≡ exit_of ran.0) ⊎ (status ≡ 7)
         → (status ≡ exit_of (answer_of (verdict program_limit bytes))) ⊎ (status ≡ 7)
     completes outcome (inr seven) = inr seven
     completes (inl outcome) (inl own) = inl (own ∙ ap exit_of outcome)

@@ -1,8 +1,8 @@
 //! What the promises of `play` and of the program say, clause by clause.
-ghost use Rattle.std.specs.Prelude.{◌≡◌, ◌≢◌, ℕ, ◌+◌, ◌<◌, ◌≤◌, ◌⊎◌, List, [], ◌∷◌, ◌++◌, length, codes, map, string_bytes, OnOk, IfOk, Some, Err};
+ghost use Rattle.std.specs.Prelude.{◌≡◌, ℕ, ◌+◌, ◌<◌, ◌≤◌, ◌⊎◌, List, [], ◌∷◌, ◌++◌, length, map, string_bytes, OnOk, IfOk, Some, Err};
 ghost use Rattle.band_base.specs.Device.{AppendsPrefix, Rose};
 ghost use Rattle.band_rules.specs.Script.{Good, Malformed, TooLong, verdict, calls_within, transcript};
-ghost use Rattle.band_play.specs.Play.{Gave, Comes, PlaysGiven, KeepsUp, Told, IsStatus, end_of, program_limit};
+ghost use Rattle.band_play.specs.Play.{Gave, Comes, PlaysGiven, KeepsUp, Told, AskToPlay, AreOthers, IsStatus, end_of, program_limit};
 ghost use Rattle.band_play.specs.Text.{fault_text, usage_text};
 ghost use Rattle.band_uses.specs.Outcome.{AllRead, answer_of, exit_of};
 
@@ -61,13 +61,13 @@ pub fn run_program<S: Source, D: Sink, E: Sink, L: Ledger>(
     steps: &mut Steps<L>,
 ) -> u8
     ensures status { IsStatus result }
-    ensures usage { result ≡ 2 → map string_bytes words.now ≢ codes "play" ∷ [] }
-    ensures other_words { map string_bytes words.now ≢ codes "play" ∷ [] → (result ≡ 2) ⊎ (result ≡ 7) }
-    ensures untouched { map string_bytes words.now ≢ codes "play" ∷ [] →
-        (src.new ≡ src.old) × (dst.new ≡ dst.old) }
-    ensures ok { result ≡ 0 → (lines : ℕ)
+    ensures usage { result ≡ 2 → AreOthers (map string_bytes words.now) }
+    ensures other_words { AreOthers (map string_bytes words.now) → (result ≡ 2) ⊎ (result ≡ 7) }
+    ensures unread { (AskToPlay (map string_bytes words.now) → ⊥) → src.new ≡ src.old }
+    ensures untouched { AreOthers (map string_bytes words.now) → dst.new ≡ dst.old }
+    ensures ok { AskToPlay (map string_bytes words.now) → result ≡ 0 → (lines : ℕ)
         × Comes (Good lines) program_limit (S.left src.old) (D.written dst.old) (D.written dst.new) }
-    ensures all_read { result ≡ 0 → AllRead (S.left src.old) (S.left src.new) }
+    ensures all_read { AskToPlay (map string_bytes words.now) → result ≡ 0 → AllRead (S.left src.old) (S.left src.new) }
     ensures malformed { result ≡ 3 → (line : ℕ)
         × Comes (Malformed line) program_limit (S.left src.old) (D.written dst.old) (D.written dst.new)
         × Told (fault_text (PlayFault.Malformed line) ++ 10 ∷ [])
@@ -83,13 +83,14 @@ pub fn run_program<S: Source, D: Sink, E: Sink, L: Ledger>(
     ensures write { result ≡ 6 → Rose (D.faults dst.old) (D.faults dst.new) }
     // Whatever the status is.
     ensures takes { Gave (λ given. length given ≤ program_limit + 1) (S.left src.old) (S.left src.new) }
-    ensures front { Gave (λ given.
+    ensures front { AskToPlay (map string_bytes words.now) → Gave (λ given.
         AppendsPrefix (transcript (calls_within program_limit given)) (D.written dst.old) (D.written dst.new))
         (S.left src.old) (S.left src.new) }
-    ensures keeps_up { Gave (λ given. KeepsUp program_limit given (D.written dst.old) (D.written dst.new))
+    ensures keeps_up { AskToPlay (map string_bytes words.now) →
+        Gave (λ given. KeepsUp program_limit given (D.written dst.old) (D.written dst.new))
         (S.left src.old) (S.left src.new) }
     // Where neither end has failed, the status is that of the outcome, or that there was no memory.
-    ensures completes { map string_bytes words.now ≡ codes "play" ∷ [] →
+    ensures completes { AskToPlay (map string_bytes words.now) →
         (Rose (S.faults src.old) (S.faults src.new) → ⊥) → (Rose (D.faults dst.old) (D.faults dst.new) → ⊥) →
         (bytes : List ℕ) → S.left src.old ≡ Some bytes →
         (result ≡ exit_of (answer_of (verdict program_limit bytes))) ⊎ (result ≡ 7) }

@@ -3,6 +3,7 @@ use Rattle.std.specs.Prelude.{◌≡◌, ℕ, Result, Ok, Err}
 use Rattle.band_base.specs.declared.poll.Poll.{Poll}
 use Rattle.band_base.specs.declared.poll.Poll.TheVariants.{Ready, Pending}
 use Rattle.band_base.specs.declared.poll.PollError.{PollError}
+use Rattle.band_line.specs.Visits.{Visits}
 use Rattle.band_sem.specs.Permit.{Permit}
 use Rattle.band_sem.specs.Request.{Stage as Asked, NotPolled, Joined, Finished as Ended}
 use Rattle.band_condvar.specs.declared.stage.Stage.{Stage as Kept}
@@ -34,3 +35,10 @@ abbrev pub GivesGuardOf : ℕ → Result (Poll Permit) PollError → Type 0
 GivesGuardOf of (Ok (Ready guard)) = guard.of ≡ of
 GivesGuardOf of (Ok Pending) = Unit {0}
 GivesGuardOf of (Err error) = Unit {0}
+
+-- how many waits are visited to have the guard
+abbrev pub AcquireVisits : Stage → ℕ → ℕ → Type 0
+AcquireVisits (Enqueue guard) before after = after ≡ before
+AcquireVisits (Registered slot) before after = Visits 1 4 before after
+AcquireVisits (Reacquiring baton slot) before after = Visits 1 2 before after
+AcquireVisits Finished before after = after ≡ before

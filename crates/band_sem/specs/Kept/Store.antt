@@ -1,10 +1,10 @@
 -- What a store stands for, and what holds of it.
-use Rattle.std.specs.Prelude.{◌≡◌, ℕ, ◌+◌, ◌≤◌, false, ℤ, pos, neg_ℤ, ◌+ℤ◌, ◌≤ℤ◌, IsTrue, Option, Some, None, Result, Ok, Err}
+use Rattle.std.specs.Prelude.{◌≡◌, ℕ, ◌+◌, ◌≤◌, false, [], ℤ, pos, neg_ℤ, ◌+ℤ◌, ◌≤ℤ◌, IsTrue, Option, Some, None, Result, Ok, Err}
 use Rattle.std.specs.declared.alloc.AllocError.{AllocError}
 use Rattle.band_balance.specs.Line.{Line, requests, total, is_served, entry_named, u64_max}
 use Rattle.band_line.specs.Visits.{Visits}
 use Rattle.band_partial.specs.PartialLine.{IsSettled, debts, line_of}
-use Rattle.band_row.specs.Row.{IsRow, part}
+use Rattle.band_row.specs.Row.{RowState, IsRow, part, ended_of}
 use Rattle.band_sem.specs.declared.store.Store.{Store}
 use Rattle.band_sem.specs.declared.store.Entrance.{Entrance}
 use Rattle.band_sem.specs.declared.store.Entrance.TheVariants.{Served, Joined}
@@ -27,9 +27,14 @@ pub record CountsFit (held : ℕ) (free : ℤ) (granted : ℕ) : Type 0 where
   pub in_all : (free +ℤ pos (granted + held)) ≤ℤ pos u64_max
   pub owed : neg_ℤ (pos u64_max) ≤ℤ free
 
+-- a row in which nobody was ended
+pub record IsOpen (it : RowState) : Type 0 where
+  pub row : IsRow it
+  pub none_ended : ended_of it.list ≡ []
+
 -- what holds between any two calls
 pub record IsSound (store : Store) : Type 0 where
-  pub row : IsRow store.row
+  pub row : IsOpen store.row
   pub settled : IsSettled (part store.row)
   pub free : store.free ≡ (line_in store).free
   pub fit : CountsFit store.held (line_in store).free (total (line_in store).granted)

@@ -3,8 +3,7 @@ use Rattle.std.specs.Fmt.{decimal}
 use Rattle.band_script.proofs.Fronts.{from_place}
 use Rattle.band_script.proofs.NumberLemmas.{digits_front, first_of_number, zero_read}
 use Rattle.band_script.proofs.number.split_number.Goals as goal
-use Rattle.band_script.proofs.number.split_number.Goals.{in_default-via-then-text-lt1, in_default-via-else-text-lt1+in_default+then-text-lt48}
-use Rattle.band_script.proofs.number.split_number.Goals.{in_default-via-else-text-lt1+in_default+else-text-lt48+else-text-lt58}
+use Rattle.band_script.proofs.number.split_number.Goals.{in_default-via-then-text-lt1, in_default-via-else-text-lt1+in_default+then-text-lt48, in_default-via-else-text-lt1+in_default+else-text-lt48+else-text-lt58}
 
 pub returns-in-48 : goal.returns-in-48
 returns-in-48 c =

@@ -1,7 +1,7 @@
-use Rattle.std.proofs.Common.{sym, ◌∙◌, ap, Some, is_some, cond}
+use Rattle.std.proofs.Common.{◌≡◌, ℕ, ◌+◌, List, [], ◌∷◌, slice_get, arith, sym, ◌∙◌, ap, Some, None, is_some, cond}
 use Rattle.band_line.specs.WaitList.{pushed_back}
-use Rattle.band_line.specs.Line.{list_of, pointed_next}
-use Rattle.band_line.proofs.Linking.{back_linked}
+use Rattle.band_line.specs.Line.{last_or, linked_of, list_of, pointed_next}
+use Rattle.band_line.proofs.Linking.{back_linked, last_or-some}
 use Rattle.band_line.proofs.LineLemmas.{Inserts, Makes, pushes_back, gains_back, stays_linked, waits, sound_list, node_values-pointed_next}
 use Rattle.band_line.proofs.ArenaMaps.{next_slot-arena_map}
 use Rattle.band_line.proofs.WaitListLemmas.{joins_back}
@@ -58,3 +58,13 @@ pub returns-clause-nodes : goal.returns-clause-nodes
 returns-clause-nodes g c =
     rw (c.point_next.ensures.nodes, c.to-new.ensures, node_values-pointed_next c.insert-id.new.self c.self.inside.back (Some c.insert-id.result))
     (sound_mapped (λ node. node.value) c.insert-id.new.self c.insert-id.ensures.sound)
+
+-- where somebody is first, somebody is last
+beside : (ids : List ℕ) (steps : ℕ) → (steps + 1) + cond (is_some (last_or None ids)) 1 0 ≡ steps + cond (is_some (slice_get ids 0)) 2 1
+beside [] steps = omega arith
+beside (x ∷ xs) steps = rw (last_or-some x xs) (omega arith)
+
+pub returns-clause-counted : goal.returns-clause-counted
+returns-clause-counted g c =
+    rw (c.point_next.ensures.visits, c.insert-id.ensures.visits, ← c.self.view_is, c.self.invariant.line.back_is)
+    (beside (linked_of c.self.inside.nodes c.self.inside.front) c.args.steps.now)

@@ -1,13 +1,16 @@
-use Rattle.std.proofs.Common.{◌≡◌, Some, true, arith, refl, sym, ap, ◌∙◌}
+use Rattle.std.proofs.Common.{◌≡◌, ℕ, Some, true, arith, refl, sym, ap, ◌∙◌}
 use Rattle.band_line.specs.Arena.{value_at}
-use Rattle.band_line.specs.Line.{node_value, changed_at, asked, closed, gap_visits}
+use Rattle.band_line.specs.Line.{HasAsManyNodes, list_of, node_value, changed_at, asked, closed, gap_visits}
 use Rattle.band_line.proofs.LineLemmas.{detaches, writes, held, value_is, neighbors_asked, gap_visits-le, gap_visits-first, sound_list, no_links}
-use Rattle.band_line.specs.WaitList.{IsWaitList}
+use Rattle.band_line.specs.WaitList.{WaitListState, IsWaitList, IsWritten, IsUnlinked}
 use Rattle.band_line.proofs.WaitListLemmas.{after_write, after_unlink}
 use Rattle.band_line.proofs.line.Line.unlink.Goals as goal
 
 Some-injective : {A : Type 0} {a b : A} → Some a ≡ Some b → a ≡ b
 Some-injective e = cc
+
+with_size : {T : Type 0} {old new : WaitListState T} {id : ℕ} {last : T} → IsUnlinked id last old new → IsUnlinked id last old new × HasAsManyNodes old new
+with_size unlinked = (unlinked, record { len = unlinked.len; spare = unlinked.spare })
 
 pub invariant_of-self : goal.invariant_of-self
 invariant_of-self g c =
@@ -19,15 +22,12 @@ pub returns-in_err-gap : goal.returns-in_err-gap
 returns-in_err-gap g c =
     let here = held c.self.inside.nodes c.args.id (rw (← c.self.view_is) at c.requires.here) in
     let answered = c.in_err-gap.ensures.asked in
+    let written : IsWritten c.args.id answered.0 c.args.self.now (list_of c.ask.new.self c.self.inside.front) = after_write c.requires.here (rw (answered.2, ← c.self.view_is) (writes c.args.id answered.0 c.self.invariant here).shows) in
     rw c.from_residual.ensures (
       (
         refl,
-        (λ w. tt),
-        (
-          answered.0,
-          rw (← c.self.view_is, value_is c.self.inside.nodes c.args.id) answered.1,
-          after_write c.requires.here (rw (answered.2, ← c.self.view_is) (writes c.args.id answered.0 c.self.invariant here).shows),
-        ),
+        (λ w. (tt, record { len = written.len; spare = written.spare })),
+        ((answered.0, rw (← c.self.view_is, value_is c.self.inside.nodes c.args.id) answered.1, written), record { len = written.len; spare = written.spare }),
       ),
       record {
         writes_back = tt;
@@ -75,7 +75,11 @@ returns g c =
     let same : answered.0 ≡ c.waiter_mut.result.now = Some-injective (sym made.holds ∙ value_is after c.args.id ∙ found) in
     let sound : IsWaitList c.args.self.now = rw (← c.self.view_is) (sound_list c.self.invariant) in
     let steps = c.in_ok-gap.ensures.visits in (
-      (refl, (λ w. after_unlink sound c.requires.here (rw (c.close_gap.ensures.nodes, c.close_gap.ensures.front, answered.2, ← c.self.view_is) (made.rewrites w).shows)), tt),
+      (
+        refl,
+        (λ w. with_size (after_unlink sound c.requires.here (rw (c.close_gap.ensures.nodes, c.close_gap.ensures.front, answered.2, ← c.self.view_is) (made.rewrites w).shows))),
+        (tt, record { len = refl; spare = refl }),
+      ),
       record {
         writes_back = tt;
         left = rw (← c.self.view_is, value_is c.self.inside.nodes c.args.id, ← same) answered.1;

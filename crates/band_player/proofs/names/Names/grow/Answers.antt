@@ -1,12 +1,11 @@
-use Rattle.std.proofs.Common.{◌≡◌, ◌+◌, Some, Ok, ap, ap₂, sym, ◌∙◌, subst, arith, rules}
+use Rattle.std.proofs.Common.{◌≡◌, ◌+◌, Some, ap, sym, ◌∙◌, arith, rules}
 use Rattle.band_balance.specs.Object.{Permit}
-use Rattle.band_player.specs.Apart.{at, Sets}
+use Rattle.band_player.specs.Apart.{at}
 use Rattle.band_player.specs.Moves.{held_as}
-use Rattle.band_player.specs.Objects.{HoldingState}
 use Rattle.band_player.specs.Thing.{place_at}
 use Rattle.band_player.specs.Token.{TokenState, Holding, thing_of, count_of, counted}
 use Rattle.band_player.proofs.Named.{held_token}
-use Rattle.band_player.proofs.Updates.{no_object, token_there, token_set, apart_set}
+use Rattle.band_player.proofs.Updates.{token_there, token_filled, apart_filled}
 use Rattle.band_player.proofs.names.Names.grow.Goals as goal
 
 pub join-requires : goal.join-requires
@@ -18,13 +17,11 @@ join-requires c =
     record { mode = held.1; more = c.requires.mode; same = ap (λ t. place_at (thing_of t)) held.0 ∙ c.requires.same; fits = omega arith }
 
 pub invariant_of-self : goal.invariant_of-self
-invariant_of-self c =
-    let was : at c.args.self.now.tokens c.args.name.now ≡ Some c.take-permit.result = search rules in
-    record {
-      apart =
-          apart_set c.args.self.now c.args.name.now (c.get_mut.follows.lender c.fill.new.self) (Some c.fill.new.self) (no_object c.args.self.now c.args.name.now c.take-permit.result was)
-          (c.get_mut.follows.holds c.fill.new.self (search rules));
-    }
+invariant_of-self c = record {
+  apart =
+      apart_filled c.args.self.now c.args.name.now (c.get_mut.follows.lender c.fill.new.self) c.take-permit.result c.fill.new.self (search rules)
+      (c.get_mut.follows.holds c.fill.new.self (search rules));
+}
 
 pub returns : goal.returns
 returns c =
@@ -37,7 +34,5 @@ returns c =
       whole = c.requires.whole;
       was = c.requires.is;
       updated =
-          token_set c.args.self.now c.args.name.now (c.get_mut.follows.lender c.fill.new.self) _ (no_object c.args.self.now c.args.name.now c.take-permit.result was)
-          (subst (λ (t : TokenState). Sets c.args.self.now.tokens (c.get_mut.follows.lender c.fill.new.self) c.args.name.now (Some t)) left
-          (c.get_mut.follows.holds c.fill.new.self (search rules)));
+          token_filled c.args.self.now c.args.name.now (c.get_mut.follows.lender c.fill.new.self) c.take-permit.result _ _ was left (c.get_mut.follows.holds c.fill.new.self (search rules));
     }

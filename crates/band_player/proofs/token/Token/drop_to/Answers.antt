@@ -1,8 +1,7 @@
 use Rattle.std.proofs.Common.{rules}
 use Rattle.band_sem.proofs.Visits.{pays-given_back, pays-cancelled}
 use Rattle.band_player.proofs.token.Token.drop_to.Goals as goal
-use Rattle.band_player.proofs.token.Token.drop_to.Goals.{in-SemaphorePermit-Semaphore, in-LockGuard-Mutex, in-ReadAccess-ReaderWriter, in-WriteAccess-ReaderWriter, in-Acquire-Semaphore}
-use Rattle.band_player.proofs.token.Token.drop_to.Goals.{in-LockRequest-Mutex, in-ReadRequest-ReaderWriter, in-WriteRequest-ReaderWriter}
+use Rattle.band_player.proofs.token.Token.drop_to.Goals.{in-SemaphorePermit-Semaphore, in-LockGuard-Mutex, in-ReadAccess-ReaderWriter, in-WriteAccess-ReaderWriter, in-Acquire-Semaphore, in-LockRequest-Mutex, in-ReadRequest-ReaderWriter, in-WriteRequest-ReaderWriter}
 
 pub returns-clause-state : goal.returns-clause-state
 returns-clause-state g c = elim c.match-any.branch [

@@ -3,14 +3,7 @@ use Rattle.band_sem.proofs.Visits.{pays-polled}
 use Rattle.band_player.proofs.Polled.{ends}
 use Rattle.band_player.proofs.Visits.{pays_nothing}
 use Rattle.band_player.proofs.token.Token.poll.Goals as goal
-use Rattle.band_player.proofs.token.Token.poll.Goals.{in-Acquire-Semaphore+in-Ok-Ready, in-Acquire-Semaphore+in-Ok-Pending, in-Acquire-Semaphore+in-Err}
-use Rattle.band_player.proofs.token.Token.poll.Goals.{in-LockRequest-Mutex+in-Ok-Ready-poll_once, in-LockRequest-Mutex+in-Ok-Pending-poll_once, in-LockRequest-Mutex+in-Err-poll_once}
-use Rattle.band_player.proofs.token.Token.poll.Goals.{in-ReadRequest-ReaderWriter+in-Ok-Ready-poll_once-2, in-ReadRequest-ReaderWriter+in-Ok-Pending-poll_once-2}
-use Rattle.band_player.proofs.token.Token.poll.Goals.{in-ReadRequest-ReaderWriter+in-Err-poll_once-2}
-use Rattle.band_player.proofs.token.Token.poll.Goals.{in-WriteRequest-ReaderWriter+in-Ok-Ready-poll_once-3, in-WriteRequest-ReaderWriter+in-Ok-Pending-poll_once-3}
-use Rattle.band_player.proofs.token.Token.poll.Goals.{in-WriteRequest-ReaderWriter+in-Err-poll_once-3}
-use Rattle.band_player.proofs.token.Token.poll.Goals.{in_default, in_default-via-in-Acquire+in-Mutex-1, in_default-via-in-LockRequest+in-Semaphore-1, in_default-via-in-ReadRequest+in-Semaphore-1}
-use Rattle.band_player.proofs.token.Token.poll.Goals.{in_default-via-in-WriteRequest+in-Semaphore-1, in_default-via-in-Ended-1}
+use Rattle.band_player.proofs.token.Token.poll.Goals.{in-Acquire-Semaphore+in-Ok-Ready, in-Acquire-Semaphore+in-Ok-Pending, in-Acquire-Semaphore+in-Err, in-LockRequest-Mutex+in-Ok-Ready-poll_once, in-LockRequest-Mutex+in-Ok-Pending-poll_once, in-LockRequest-Mutex+in-Err-poll_once, in-ReadRequest-ReaderWriter+in-Ok-Ready-poll_once-2, in-ReadRequest-ReaderWriter+in-Ok-Pending-poll_once-2, in-ReadRequest-ReaderWriter+in-Err-poll_once-2, in-WriteRequest-ReaderWriter+in-Ok-Ready-poll_once-3, in-WriteRequest-ReaderWriter+in-Ok-Pending-poll_once-3, in-WriteRequest-ReaderWriter+in-Err-poll_once-3, in_default, in_default-via-in-Acquire+in-Mutex-1, in_default-via-in-LockRequest+in-Semaphore-1, in_default-via-in-ReadRequest+in-Semaphore-1, in_default-via-in-WriteRequest+in-Semaphore-1, in_default-via-in-Ended-1}
 
 pub returns-clause-ok : goal.returns-clause-ok
 returns-clause-ok g c = elim c.match-any.branch [

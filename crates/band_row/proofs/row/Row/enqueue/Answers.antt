@@ -1,8 +1,8 @@
-use Rattle.std.proofs.Common.{◌≡◌, ◌<◌, ◌+◌, ◌-◌, ◌++◌, ◌∷◌, [], ap, sym, ◌∙◌, subst, Some, None, ℕ, arith}
+use Rattle.std.proofs.Common.{◌≡◌, ◌<◌, ◌+◌, ◌-◌, ◌++◌, ◌∷◌, [], ap, sym, ◌∙◌, subst, Some, None, false, ℕ, arith}
 use Rattle.band_partial.specs.PartialLine.{IsSettled}
 use Rattle.band_partial.specs.Moves.{enqueue}
 use Rattle.band_line.specs.WaitList.{waiter_at}
-use Rattle.band_row.specs.Row.{RowState, part}
+use Rattle.band_row.specs.Row.{RowState, part, ended_of}
 use Rattle.band_row.specs.declared.wait_node.WaitNode.{WaitNode}
 use Rattle.band_row.proofs.Linked.{request-none}
 use Rattle.band_row.proofs.Moving.{Becomes, kept, counts, joined, joined-counts, joined-settled, woken-as}
@@ -22,10 +22,10 @@ module _ (g : Over) (c : goal.After-push_back g) where
   more : old.word < c.args.size
   more = subst (λ s. s.word < c.args.size) (sym c.self.view_is) c.requires.more
 
-  made : c.request.result ≡ record { size = c.args.size; needed = c.args.size - old.word; waker = Some c.args.waker }
-  made = c.request.ensures ∙ ap (λ word. record { size = c.args.size; needed = c.args.size - word; waker = Some c.args.waker }) c.replace.ensures.value
+  made : c.request.result ≡ record { size = c.args.size; needed = c.args.size - old.word; waker = Some c.args.waker; ended = false }
+  made = c.request.ensures ∙ ap (λ word. record { size = c.args.size; needed = c.args.size - word; waker = Some c.args.waker; ended = false }) c.replace.ensures.value
 
-  becomes : Becomes (record { word = 0; list = c.push_back.new.self; wakes = old.wakes }) (enqueue c.push_back.result c.args.size c.args.waker.0 (part old))
+  becomes : Becomes (record { word = 0; list = c.push_back.new.self; wakes = old.wakes }) (enqueue c.push_back.result c.args.size c.args.waker.0 (part old)) (ended_of old.list)
   becomes =
       joined c.self.invariant.row c.reserve-2.ensures.same
       (record {
@@ -36,14 +36,14 @@ module _ (g : Over) (c : goal.After-push_back g) where
         joins = c.push_back.ensures.joins;
         sound = c.push_back.ensures.sound;
       })
-      (subst (λ (node : WaitNode). 0 < node.needed) (sym made) (more_needed c.args.size old.word more))
+      (subst (λ (node : WaitNode). 0 < node.needed) (sym made) (more_needed c.args.size old.word more)) (ap (λ (node : WaitNode). node.ended) made)
       c.args.size c.args.waker settled
       (ap (λ l. l.linked) c.push_back.ensures.state ∙ ap (λ slot. c.reserve-2.new.self.linked ++ slot ∷ []) (sym c.push_back.ensures.slot)) made more
 
   wakers : c.join.new.self.wakes.wakers ≡ old.wakes
   wakers = ap (λ k. k.wakes.wakers) c.join.ensures ∙ ap (λ k. k.wakes.wakers) c.reserve.ensures.same
 
-  moved : Becomes (record { word = 0; list = c.push_back.new.self; wakes = c.join.new.self.wakes.wakers }) (enqueue c.push_back.result c.args.size c.args.waker.0 (part old))
+  moved : Becomes (record { word = 0; list = c.push_back.new.self; wakes = c.join.new.self.wakes.wakers }) (enqueue c.push_back.result c.args.size c.args.waker.0 (part old)) (ended_of old.list)
   moved = woken-as wakers becomes
 
 pub invariant_of-self-2 : goal.invariant_of-self-2
@@ -64,3 +64,6 @@ returns-clause-settled g c = rw c.replace.ensures.after (subst IsSettled (sym (m
 
 pub returns-clause-row : goal.returns-clause-row
 returns-clause-row g c = rw c.replace.ensures.after (moved g c).row
+
+pub returns-clause-ended : goal.returns-clause-ended
+returns-clause-ended g c = (moved g c).ended ∙ ap (λ s. ended_of s.list) c.self.view_is

@@ -1,4 +1,4 @@
-use Rattle.std.proofs.Common.{refl, subst}
+use Rattle.std.proofs.Common.{refl, ◌∙◌, subst}
 use Rattle.band_partial.specs.PartialLine.{PartialLine, AreAlikeParts, IsSettled}
 use Rattle.band_partial.specs.Moves.{give_out}
 use Rattle.band_partial.proofs.Steps.{gives_out_done}
@@ -9,6 +9,7 @@ use Rattle.band_row.proofs.row.Row.give_out.Goals as goal
 pub loop-first-preserved : goal.loop-first-preserved
 loop-first-preserved g c = record {
   serves = serves-then _ _ _ _ _ _ c.loop-first.invariant.serves (c.in-Some.ensures.some refl) c.serve.ensures.serves;
+  ended = c.serve.ensures.ended ∙ c.loop-first.invariant.ended;
   holds = c.serve.ensures.holds;
 }
 
@@ -22,3 +23,6 @@ returns-clause-part g c =
 
 pub returns-clause-debts : goal.returns-clause-debts
 returns-clause-debts g c = c.loop-first.invariant.serves.debts
+
+pub returns-clause-ended : goal.returns-clause-ended
+returns-clause-ended g c = c.loop-first.invariant.ended

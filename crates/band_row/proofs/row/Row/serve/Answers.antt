@@ -1,7 +1,7 @@
-use Rattle.std.proofs.Common.{◌≡◌, ◌+◌, ◌-◌, ℕ, Some, None, ap, sym, subst, arith}
+use Rattle.std.proofs.Common.{◌≡◌, ◌+◌, ◌-◌, ℕ, Some, None, ap, sym, ◌∙◌, subst, arith}
 use Rattle.band_line.specs.WaitList.{first_waiter}
 use Rattle.band_partial.specs.PartialLine.{PartialLine}
-use Rattle.band_row.specs.Row.{RowState, part, Holds}
+use Rattle.band_row.specs.Row.{RowState, part, ended_of, Holds}
 use Rattle.band_row.specs.Kept.Serves.{Serves, ServesNode}
 use Rattle.band_row.specs.contracts.row.Row.{the_view}
 use Rattle.band_row.proofs.Serving.{Served, grants, pays, gives, size_fits, first-linked}
@@ -18,6 +18,9 @@ module _ {old now : RowState} (is : old ≡ now) where
 
   serves_out : {new : PartialLine} {before after : ℕ} → Serves (part old) new before after → Serves (part now) new before after
   serves_out {new} {before} {after} serves = subst (λ (row : RowState). Serves (part row) new before after) is serves
+
+  same_ended : ended_of old.list ≡ ended_of now.list
+  same_ended = ap (λ (row : RowState). ended_of row.list) is
 
 pub serve_first-requires-clause-here : goal.serve_first-requires-clause-here
 serve_first-requires-clause-here g c =
@@ -44,6 +47,9 @@ returns-in_default-clause-serves g c = serves_out c.self.view_is (given_all g c)
 pub returns-in_default-clause-holds : goal.returns-in_default-clause-holds
 returns-in_default-clause-holds g c = (given_all g c).holds
 
+pub returns-in_default-clause-ended : goal.returns-in_default-clause-ended
+returns-in_default-clause-ended g c = (given_all g c).ended ∙ same_ended c.self.view_is
+
 pub grant-requires-clause-fits : goal.grant-requires-clause-fits
 grant-requires-clause-fits g c =
     let left = c.in-Some.ensures.serves in
@@ -69,6 +75,9 @@ returns-in-Some-waker-clause-serves g c = serves_out c.self.view_is (granted g c
 pub returns-in-Some-waker-clause-holds : goal.returns-in-Some-waker-clause-holds
 returns-in-Some-waker-clause-holds g c = (granted g c).holds
 
+pub returns-in-Some-waker-clause-ended : goal.returns-in-Some-waker-clause-ended
+returns-in-Some-waker-clause-ended g c = (granted g c).ended ∙ same_ended c.self.view_is
+
 module _ (g : Over) (c : goal.After-remove_unlinked_waiter g) where
   paid : Served (the_view c.self.inside)
       (record { word = c.self.inside.word - c.in-Some.node.needed; list = c.remove_unlinked_waiter.new.self; wakes = c.self.inside.counts.wakes.wakers }) c.self.inside.counts
@@ -89,3 +98,6 @@ returns-in-None-clause-serves g c = serves_out c.self.view_is (paid g c).serves
 
 pub returns-in-None-clause-holds : goal.returns-in-None-clause-holds
 returns-in-None-clause-holds g c = (paid g c).holds
+
+pub returns-in-None-clause-ended : goal.returns-in-None-clause-ended
+returns-in-None-clause-ended g c = (paid g c).ended ∙ same_ended c.self.view_is

@@ -1,4 +1,4 @@
-use Rattle.std.proofs.Common.{◌+ℤ◌, pos, refl, arith}
+use Rattle.std.proofs.Common.{◌+ℤ◌, pos, refl, ◌∙◌, arith}
 use Rattle.std.proofs.lemmas.Int.{ints, to_z-of_z}
 use Rattle.band_balance.specs.Line.{give_back}
 use Rattle.band_partial.specs.PartialLine.{line_of}
@@ -26,4 +26,4 @@ pub returns-clause-state : goal.returns-clause-state
 returns-clause-state g c = record { number = refl; line = (settled g c).alike; held = refl }
 
 pub returns-clause-sound : goal.returns-clause-sound
-returns-clause-sound g c = record { row = c.pass_on.ensures.row; settled = c.pass_on.ensures.settled; free = c.free_of-self.ensures; fit = (settled g c).fit }
+returns-clause-sound g c = record { row = record { row = c.pass_on.ensures.row; none_ended = c.pass_on.ensures.ended ∙ c.requires.sound.row.none_ended }; settled = c.pass_on.ensures.settled; free = c.free_of-self.ensures; fit = (settled g c).fit }
