@@ -1,3 +1,4 @@
 pub mod Device
 pub mod Failing
+pub mod Polled
 pub mod WakeLine

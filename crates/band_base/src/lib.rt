@@ -4,6 +4,7 @@
 
 mod failures;
 mod poll;
+mod polled;
 mod refusal;
 mod sink;
 mod source;
@@ -14,6 +15,7 @@ mod wake_line;
 mod waker;
 
 pub use poll::{Poll, PollError};
+pub use polled::Polled;
 pub use refusal::Refusal;
 pub use sink::{BytesOut, FailingOut, Sink, SinkError, StdErr, StdOut, WriterSink, write_all};
 pub use source::{BytesIn, FailingIn, ReaderSource, Source, SourceFailed, StdIn};

@@ -29,4 +29,7 @@ pub enum PollError {
     /// A driven state failed in another way than by memory.
     #[error("a driven state failed")]
     Driven,
+    /// The semaphore was closed before it served the request.
+    #[error("the semaphore is closed")]
+    Closed,
 }

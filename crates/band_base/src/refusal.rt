@@ -19,4 +19,6 @@ pub enum Refusal {
     Overflow,
     /// The debt would pass the largest count.
     Debt,
+    /// The semaphore is closed, and serves no new request.
+    Closed,
 }
