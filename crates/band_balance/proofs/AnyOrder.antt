@@ -1,9 +1,9 @@
 -- What holds of a list in any order.
-use Rattle.std.proofs.Common.{ℕ, zero, suc, ◌<◌, List, [], ◌∷◌, ◌++◌, length, set, get_or, subst, arith}
+use Rattle.std.proofs.Common.{ℕ, zero, suc, ◌<◌, List, [], ◌∷◌, ◌++◌, length, set, get_or, subst, append_assoc, append-nil, arith}
 use Rattle.std.specs.List.{AllByRecursion, swap}
 use Rattle.std.specs.List.Sorted.{IsPermutation}
 use Rattle.std.proofs.lemmas.List.Edits.{swap_is}
-use Rattle.std.proofs.lemmas.List.Sorted.{IsPermutation-keeps}
+use Rattle.std.proofs.lemmas.List.Sorted.{IsPermutation-keeps, IsPermutation-refl, IsPermutation-append, IsPermutation-append_comm}
 use Rattle.band_balance.specs.Laws.{Pairwise}
 use Rattle.band_balance.proofs.Rename.{all_of_first}
 
@@ -59,3 +59,9 @@ pairwise_front R (x ∷ xs) ys each = (all_of_first (R x) xs ys each.0, pairwise
 pub pairwise_back : {X : Type 0} (R : X → X → Type 0) (xs ys : List X) → Pairwise R (xs ++ ys) → Pairwise R ys
 pairwise_back R [] ys each = each
 pairwise_back R (x ∷ xs) ys each = pairwise_back R xs ys each.1
+
+-- who waits goes from behind those granted to behind those ended
+pub ended_in_order : {X : Type 0} (ended granted waiting : List X) → IsPermutation (ended ++ (granted ++ waiting)) ((ended ++ waiting) ++ (granted ++ []))
+ended_in_order ended granted waiting =
+    rw (append-nil, append_assoc)
+    (IsPermutation-append ended ended (granted ++ waiting) (waiting ++ granted) (IsPermutation-refl ended) (IsPermutation-append_comm granted waiting))

@@ -11,7 +11,7 @@ use Rattle.band_balance.specs.Rule.{Fits, has_name, MayAsk}
 use Rattle.band_balance.specs.Laws.{Pairwise, IsOrderly, EndsAs}
 use Rattle.band_balance.specs.Settled.{HeadWaits}
 use Rattle.band_balance.proofs.Held.{TellsApart, other_way, all-change}
-use Rattle.band_balance.proofs.AnyOrder.{pairwise-order, pairwise_front}
+use Rattle.band_balance.proofs.AnyOrder.{ended_in_order, pairwise-order, pairwise_front}
 use Rattle.band_balance.proofs.Rename.{all_of_first, all_of_second, all_of_both}
 use Rattle.band_balance.proofs.Requests.{all-weaker, all-without, all-found, all-not_named, requests-join, requests-give_back, requests-poll_waiting, requests-poll_granted, requests-cancel}
 use Rattle.band_balance.proofs.Settle.{left, waiting-settle, HeadWaits-give_back, HeadWaits-cancel, HeadWaits-take_permits, HeadWaits-poll_granted, HeadWaits-poll_waiting, HeadWaits-join}
@@ -81,10 +81,10 @@ pub data Asking {K : Type 0} (same : K → K → Bool) (object : Object (Tag K))
 
 -- where nobody waits, nobody waits once the line has settled
 module _ {N : Type 0} where
-  none-settle : (line : Line N) → line.waiting ≡ [] → (settle line).waiting ≡ []
+  pub none-settle : (line : Line N) → line.waiting ≡ [] → (settle line).waiting ≡ []
   none-settle line none = waiting-settle line ∙ ap (left line.free) none
 
-  none-cancel : (is : N → Bool) (line : Line N) → line.waiting ≡ [] → (cancel is line).waiting ≡ []
+  pub none-cancel : (is : N → Bool) (line : Line N) → line.waiting ≡ [] → (cancel is line).waiting ≡ []
   none-cancel is line none = go (entry_named is line.granted)
     where
       go : (found : Option (Entry N)) → (settle (withdraw found is line)).waiting ≡ []
@@ -147,13 +147,6 @@ module _ {K : Type 0} (same : K → K → Bool) (object : Object (Tag K)) where
       (all_of_both _ object.ended _ (all_of_first _ object.ended (requests object.line) each) (all_of_second _ object.line.granted (map entry_of object.line.waiting) line))
       (all_of_both _ object.line.granted [] (all_of_first _ object.line.granted (map entry_of object.line.waiting) line) tt)
 
-  -- those that waited change places with those granted
-  told_in_order : IsPermutation (asked object) ((object.ended ++ map entry_of object.line.waiting) ++ (object.line.granted ++ []))
-  told_in_order =
-      rw (append-nil, append_assoc)
-      (IsPermutation-append object.ended object.ended (requests object.line) (map entry_of object.line.waiting ++ object.line.granted) (IsPermutation-refl object.ended)
-      (IsPermutation-append_comm object.line.granted (map entry_of object.line.waiting)))
-
   module _ (told : TellsApart same) (orderly : IsOrderly same object) where
     abbrev Apart : Entry (Tag K) → Entry (Tag K) → Type 0
     Apart a b = same a.name.name b.name.name ≡ false
@@ -168,7 +161,7 @@ module _ {K : Type 0} (same : K → K → Bool) (object : Object (Tag K)) where
         (pairwise-push Apart (asked object) (record { name = made; size = size }) orderly.once
         (all-weaker _ (λ (e : Entry (Tag K)). same e.name.name made.name ≡ false) (λ e apart. other_way same told made.name e.name.name apart) (asked object)
         (all-not_named (has_name same made.name) (asked object) may.fresh.asked)))
-    once-by told_all = pairwise-order Apart (λ a b apart. other_way same told a.name.name b.name.name apart) (asked object) _ told_in_order orderly.once
+    once-by told_all = pairwise-order Apart (λ a b apart. other_way same told a.name.name b.name.name apart) (asked object) _ (ended_in_order object.ended object.line.granted (map entry_of object.line.waiting)) orderly.once
 
     -- of an open object nobody is ended but by a close, and of a closed one nobody joins
     closing-as : (shut : Bool) → object.closed ≡ shut → EndsAs shut object
