@@ -252,7 +252,7 @@ impl ReadRequest {
         steps: &mut Steps<L>,
     ) -> Result<Poll<ReadAccess>, PollError>
         requires number { self.old.of ≡ l.old.shares.number }
-        requires own { IsOwn self.old.stage self.old.size l.old.shares.line }
+        requires own { IsOwn self.old.stage self.old.size l.old.shares }
         ensures one { self.old.size ≡ 1 }
         ensures polls { Polls self.old waker.0 l.old.shares result self.new l.new.shares }
         ensures max { l.new.max ≡ l.old.max }
@@ -270,7 +270,7 @@ impl ReadRequest {
     /// Ends the request. One that waits leaves the line, and one that was granted gives its share back. Then the line settles.
     pub fn cancel<L: Ledger>(self, l: &mut RwLockState, steps: &mut Steps<L>)
         requires number { self.of ≡ l.old.shares.number }
-        requires own { IsOwn self.stage self.size l.old.shares.line }
+        requires own { IsOwn self.stage self.size l.old.shares }
         ensures state { IsLikeLock (on_shares (cancelled self.stage) l.old) l.new }
         ensures others { Leaves self.stage l.old.shares l.new.shares }
         ensures order { KeepsOrder l.old.shares.line l.new.shares.line }
@@ -305,7 +305,7 @@ impl WriteRequest {
         steps: &mut Steps<L>,
     ) -> Result<Poll<WriteAccess>, PollError>
         requires number { self.old.of ≡ l.old.shares.number }
-        requires own { IsOwn self.old.stage self.old.size l.old.shares.line }
+        requires own { IsOwn self.old.stage self.old.size l.old.shares }
         requires all { self.old.size ≡ l.old.max }
         ensures polls { Polls self.old waker.0 l.old.shares result self.new l.new.shares }
         ensures max { l.new.max ≡ l.old.max }
@@ -323,7 +323,7 @@ impl WriteRequest {
     /// Ends the request. One that waits leaves the line, and one that was granted gives all shares back. Then the line settles.
     pub fn cancel<L: Ledger>(self, l: &mut RwLockState, steps: &mut Steps<L>)
         requires number { self.of ≡ l.old.shares.number }
-        requires own { IsOwn self.stage self.size l.old.shares.line }
+        requires own { IsOwn self.stage self.size l.old.shares }
         ensures state { IsLikeLock (on_shares (cancelled self.stage) l.old) l.new }
         ensures others { Leaves self.stage l.old.shares l.new.shares }
         ensures order { KeepsOrder l.old.shares.line l.new.shares.line }

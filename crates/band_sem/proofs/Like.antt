@@ -85,7 +85,7 @@ module _ (one other : SemaphoreState) (like : IsLike one other) where
 
   pub IsWhole-like : (n : ℕ) → IsWhole n other → IsWhole n one
   IsWhole-like n whole =
-      is_whole n one (sym like.closed ∙ whole.not_closed) (rw (← like.line.free) whole.none_owed) (rw (← in_hand_same, ← like.line.free) whole.adds_up)
+      is_whole n one (sym like.closed ∙ whole.not_closed) (IsPermutation-none one.ended (subst (λ es. IsPermutation es one.ended) whole.none_ended (IsPermutation-sym _ _ like.ended))) (rw (← like.line.free) whole.none_owed) (rw (← in_hand_same, ← like.line.free) whole.adds_up)
       (asks_in_any_order (requests other.line) (requests one.line) (IsPermutation-sym _ _ (requests-alike one.line other.line like.line)) whole.each_asks)
 
 -- It stays one of n permits up to the order of those granted.

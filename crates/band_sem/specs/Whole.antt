@@ -7,6 +7,7 @@ use Rattle.band_sem.specs.Semaphore.{SemaphoreState, is_slot}
 -- there are n permits in all, none is owed, and it is not closed
 pub record IsWhole (n : ℕ) (state : SemaphoreState) : Type 0 where
   pub not_closed : state.closed ≡ false
+  pub none_ended : state.ended ≡ []
   pub none_owed : pos 0 ≤ℤ state.line.free
   -- what is free, granted and held is all there is
   pub adds_up : state.line.free +ℤ pos (total state.line.granted + state.held) ≡ pos n
