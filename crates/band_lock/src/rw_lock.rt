@@ -1,5 +1,5 @@
 //! The reader-writer lock.
-ghost use Rattle.std.specs.Prelude.{◌≡◌, ◌-◌, ◌<◌, ◌≤◌, ◌^◌, ◌↔◌, IsTrue, IsSome, IfSome, OnSome, IfNone};
+ghost use Rattle.std.specs.Prelude.{◌≡◌, ◌-◌, ◌<◌, ◌≤◌, ◌^◌, ◌↔◌, IsTrue, IsSome, IfSome, OnSome, IfNone, IsErrOf};
 ghost use Rattle.band_balance.specs.Line.{is_served};
 ghost use Rattle.band_sem.specs.Laws.{KeepsOrder, Leaves};
 ghost use Rattle.band_sem.specs.Permit.{new_permit};
@@ -255,6 +255,8 @@ impl ReadRequest {
         requires own { IsOwn self.old.stage self.old.size l.old.shares }
         ensures one { self.old.size ≡ 1 }
         ensures polls { Polls self.old waker.0 l.old.shares result self.new l.new.shares }
+        // Its semaphore is never closed.
+        ensures never_closed { IsErrOf result PollError.Closed → ⊥ }
         ensures max { l.new.max ≡ l.old.max }
         ensures order { KeepsOrder l.old.shares.line l.new.shares.line }
         ensures lawful { IsLawful l.new.shares }
@@ -308,6 +310,8 @@ impl WriteRequest {
         requires own { IsOwn self.old.stage self.old.size l.old.shares }
         requires all { self.old.size ≡ l.old.max }
         ensures polls { Polls self.old waker.0 l.old.shares result self.new l.new.shares }
+        // Its semaphore is never closed.
+        ensures never_closed { IsErrOf result PollError.Closed → ⊥ }
         ensures max { l.new.max ≡ l.old.max }
         ensures order { KeepsOrder l.old.shares.line l.new.shares.line }
         ensures lawful { IsLawful l.new.shares }
