@@ -5,9 +5,9 @@ use Rattle.std.specs.Fmt.{decimal}
 use Rattle.std.specs.List.{list_all}
 use Rattle.band_script.specs.declared.call.Call.{Call}
 use Rattle.band_script.specs.declared.call.Call.TheVariants.{Sem, Mutex, Rw, Ask, Lock, Read, Write, Poll}
-use Rattle.band_script.specs.declared.call.Call.TheVariants.{Drop, Try}
-use Rattle.band_script.specs.declared.call.Call.TheVariants.{TryLock, TryRead, TryWrite, Release, Reduce}
-use Rattle.band_script.specs.declared.call.Call.TheVariants.{Drain, Close, Forget, Split, Merge, Downgrade, Status}
+use Rattle.band_script.specs.declared.call.Call.TheVariants.{Drop, Try, TryLock, TryRead, TryWrite}
+use Rattle.band_script.specs.declared.call.Call.TheVariants.{Release, Reduce, Drain, Close}
+use Rattle.band_script.specs.declared.call.Call.TheVariants.{Forget, Split, Merge, Downgrade, Status}
 use Rattle.band_script.specs.Name.{is_name}
 use Rattle.band_script.specs.Number.{is_number}
 

@@ -2,9 +2,9 @@
 use Rattle.std.specs.Prelude.{◌≡◌, ℕ, List, [], ◌∷◌, codes, map, Option, Some, None}
 use Rattle.band_script.specs.declared.call.Call.{Call}
 use Rattle.band_script.specs.declared.call.Call.TheVariants.{Sem, Mutex, Rw, Ask, Lock, Read, Write, Poll}
-use Rattle.band_script.specs.declared.call.Call.TheVariants.{Drop, Try}
-use Rattle.band_script.specs.declared.call.Call.TheVariants.{TryLock, TryRead, TryWrite, Release, Reduce}
-use Rattle.band_script.specs.declared.call.Call.TheVariants.{Drain, Close, Forget, Split, Merge, Downgrade, Status}
+use Rattle.band_script.specs.declared.call.Call.TheVariants.{Drop, Try, TryLock, TryRead, TryWrite}
+use Rattle.band_script.specs.declared.call.Call.TheVariants.{Release, Reduce, Drain, Close}
+use Rattle.band_script.specs.declared.call.Call.TheVariants.{Forget, Split, Merge, Downgrade, Status}
 use Rattle.band_script.specs.Grammar.{call_of}
 
 abbrev pub calls : List (List ℕ × Option Call)
