@@ -10,7 +10,7 @@ use Rattle.std.proofs.lemmas.List.Folds.{list_any-append}
 use Rattle.band_balance.specs.Line.{Entry, Waiting, Line, entry_of, requests, settle, settle_from, give_back, add_permits, entry_named, without, without_waiting, withdraw, cancel, poll_granted}
 use Rattle.band_balance.specs.Object.{Object, Tag}
 use Rattle.band_balance.specs.Rule.{has_name}
-use Rattle.band_balance.specs.Laws.{Pairwise, IsOrderly, EndsAs, stands_in, granted_between, GrantsAFront}
+use Rattle.band_balance.specs.Laws.{Pairwise, IsOrderly, EndsAs, stands_in, granted_between, told_between, GrantsAFront}
 use Rattle.band_balance.proofs.AnyOrder.{pairwise_back}
 use Rattle.band_balance.proofs.Accounts.{settles_from}
 use Rattle.band_balance.proofs.Held.{TellsApart, other_way}
@@ -307,3 +307,10 @@ module _ {K : Type 0} (same : K → K → Bool) (told : TellsApart same) where
         go true none =
             nobody-waits back line (wakes-by by) none.0
             ∙ sym (ap (λ (ws : List (Waiting (Tag K))). wakers (filter (λ (w : Waiting (Tag K)). stands_in same w.name.name (ended ++ line.granted)) ws)) none.0)
+
+  -- Where an object stays as it is, nobody is told.
+  pub told-same : (object : Object (Tag K)) → IsOrderly same object → told_between same object object ≡ []
+  told-same object orderly =
+      filter_none _ object.line.waiting
+      (all-weaker (NotIn (object.ended ++ object.line.granted)) _ (λ w apart. apart) object.line.waiting
+      (waits_apart (object.ended ++ object.line.granted) object.line.waiting (subst Differ (sym (append_assoc object.ended object.line.granted (map entry_of object.line.waiting))) orderly.once)))

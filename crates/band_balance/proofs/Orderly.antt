@@ -2,9 +2,7 @@
 -- a closed one nobody waits.
 use Rattle.std.proofs.Common.{◌≡◌, ℕ, ◌+◌, ◌-◌, Bool, true, false, List, [], ◌∷◌, ◌++◌, map, Option, Some, None, IfSome, refl, sym, append_assoc, append-nil, ap, ◌∙◌}
 use Rattle.std.specs.List.{AllByRecursion}
-use Rattle.std.specs.List.Sorted.{IsPermutation}
 use Rattle.std.proofs.lemmas.Bool.{cond_both, false≢true}
-use Rattle.std.proofs.lemmas.List.Sorted.{IsPermutation-refl, IsPermutation-append, IsPermutation-append_comm}
 use Rattle.band_balance.specs.Line.{Entry, Line, requests, entry_of, drained, without, without_waiting, leave_waker, settle, add_permits, withdraw, cancel, entry_named}
 use Rattle.band_balance.specs.Object.{Object, Kind, Semaphore, Mutex, ReaderWriter, Mode, Permit, Lock, Read, Write, Tag, is_of, change, asked}
 use Rattle.band_balance.specs.Rule.{Fits, has_name, MayAsk}

@@ -5,7 +5,7 @@ use Rattle.std.proofs.lemmas.Bool.{cond-true, cond-false, or_parts}
 use Rattle.std.proofs.lemmas.Int.{ints}
 use Rattle.std.proofs.lemmas.Slice.Eq.{bytes_eq-Decides}
 use Rattle.band_balance.specs.Line.{requests, u64_max}
-use Rattle.band_balance.specs.Object.{Object, Turn, Kind, Semaphore, Mutex, ReaderWriter, Tag, new_object, asked}
+use Rattle.band_balance.specs.Object.{Object, Turn, Kind, Semaphore, Mutex, ReaderWriter, Tag, new_object}
 use Rattle.band_balance.specs.Rule.{Rule, Close, closes, IsAllowed, act, leaver, brought, removed, joiner, may_grant, may_wake}
 use Rattle.band_balance.specs.Laws.{permits, IsWithin, HasAShare, KeepsShares, IsOrderly, told_between, GrantsAFront}
 use Rattle.band_balance.proofs.Accounts.{accounts}
@@ -74,7 +74,7 @@ module _ {K : Type 0} (same : K → K → Bool) (told : TellsApart same) (rule :
 
 -- A new object is in order, within the bounds, and has all of its shares.
 pub record NewObject {K : Type 0} (same : K → K → Bool) (object : Object (Tag K)) : Type 0 where
-  pub nobody : asked object ≡ []
+  pub nobody : requests object.line ≡ []
   pub orderly : IsOrderly same object
   pub keeps_shares : KeepsShares object
 
