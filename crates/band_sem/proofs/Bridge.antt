@@ -19,7 +19,8 @@ use Rattle.band_row.specs.Row.{RowState, IsRow, SameEnded, EndedLeaves, EndsAll,
 use Rattle.band_row.proofs.Linked.{asked-distinct}
 use Rattle.band_sem.specs.declared.store.Store.{Store}
 use Rattle.band_sem.specs.Semaphore.{SemaphoreState, IsLike, EndsAs, is_slot, new_debts, taken, reduced, joined, received, told, shut, with_waker as with_new_waker}
-use Rattle.band_sem.proofs.Slots.{not_in_front, stands_once, without-nobody}
+use Rattle.band_sem.proofs.Slots.{stands_once, without-nobody}
+use Rattle.band_balance.proofs.Requests.{not_in_front}
 use Rattle.band_sem.specs.Kept.Store.{CountsFit, IsSound, state_of, line_in}
 
 -- the state that a partial line stands for, beside what a store keeps

@@ -12,7 +12,8 @@ use Rattle.band_base.specs.declared.poll.Poll.{Poll}
 use Rattle.band_base.specs.declared.poll.Poll.TheVariants.{Ready, Pending}
 use Rattle.band_base.specs.declared.poll.PollError.{PollError}
 use Rattle.band_base.specs.declared.poll.PollError.TheVariants as errors
-use Rattle.band_sem.proofs.Slots.{stands_once, not_behind, distinct_behind, without-nobody}
+use Rattle.band_sem.proofs.Slots.{stands_once, distinct_behind, without-nobody}
+use Rattle.band_balance.proofs.Requests.{not_behind}
 use Rattle.band_sem.specs.Laws.{IsSublist, KeepsOrder, IsBehind, MakesRoomFor, LeavesOthers}
 use Rattle.band_sem.specs.Permit.{Permit}
 use Rattle.band_sem.specs.Request.{Request}

@@ -19,7 +19,7 @@ use Rattle.band_sem.proofs.Like.{IsOwn-like, asked-like}
 use Rattle.band_sem.specs.Permit.{Permit}
 use Rattle.band_sem.specs.Request.{Request, Stage, NotPolled, Joined, Finished}
 use Rattle.band_sem.specs.Semaphore.{SemaphoreState, IsLike, IsLawful, IsOwn, SlotsDiffer, Polls, PollsAt, TakesWake, asked, taken, given_back, released, reduced, joined, received, with_waker, told, shut, finished, without_request, cancelled, is_slot}
-use Rattle.band_sem.proofs.Slots.{not_in_front, not_behind, found_behind}
+use Rattle.band_balance.proofs.Requests.{not_in_front, not_behind, found_behind}
 
 same_slot : (slot : ℕ) → nat_eq slot slot ≡ true
 same_slot slot = grind (arith, nat_tests)

@@ -17,18 +17,6 @@ without-nobody is (x ∷ xs) h = go (is x.name) h (without-nobody is xs)
     go true e k = cc
     go false e k = ap (λ ys. x ∷ ys) (k e)
 
--- who is found in neither of two lists is found in none of them
-module _ (is : ℕ → Bool) (xs ys : List (Entry ℕ)) (nobody : entry_named is (xs ++ ys) ≡ None) where
-  pub not_in_front : entry_named is xs ≡ None
-  not_in_front = none-from_all is xs (all_of_first _ xs ys (all-not_named is (xs ++ ys) nobody))
-
-  pub not_behind : entry_named is ys ≡ None
-  not_behind = none-from_all is ys (all_of_second _ xs ys (all-not_named is (xs ++ ys) nobody))
-
--- who isn't found in front is found behind
-pub found_behind : (is : ℕ → Bool) (xs ys : List (Entry ℕ)) → entry_named is xs ≡ None → entry_named is (xs ++ ys) ≡ entry_named is ys
-found_behind is xs ys none = entry_named-append is xs ys ∙ ap (λ (o : Option (Entry ℕ)). option_or o (entry_named is ys)) none
-
 -- who is found in front isn't found behind
 pub stands_once : (slot : ℕ) (xs ys : List (Entry ℕ)) → IsDistinct nat_eq (map (λ (e : Entry ℕ). e.name) (xs ++ ys)) → (found : Entry ℕ) → entry_named (is_slot slot) xs ≡ Some found
     → entry_named (is_slot slot) ys ≡ None

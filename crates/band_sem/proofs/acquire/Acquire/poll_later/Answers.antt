@@ -2,7 +2,7 @@ use Rattle.std.proofs.Common.{◌≡◌, ap, sym, ◌∙◌, refl}
 use Rattle.band_balance.specs.Line.{requests}
 use Rattle.band_sem.specs.Semaphore.{finished, is_slot}
 use Rattle.band_sem.proofs.Lawful.{granted-size}
-use Rattle.band_sem.proofs.Slots.{found_behind}
+use Rattle.band_balance.proofs.Requests.{found_behind}
 use Rattle.band_sem.proofs.acquire.Acquire.poll_later.Goals as goal
 
 pub returns-in-Granted-clause-polls : goal.returns-in-Granted-clause-polls
