@@ -1,4 +1,4 @@
--- Whom a rule grants and wakes: a front of those that wait, and nobody where nothing is given back.
+-- Whom a rule grants, ends and wakes: a front of those that wait, all of them where it closes, and else nobody.
 use Rattle.std.proofs.Common.{◌≡◌, ℕ, ◌-◌, Bool, true, false, cond, List, [], ◌∷◌, ◌++◌, map, Option, Some, None, pos, ℤ, ◌-ℤ◌, ◌<ℤ◌, ◌≤ℤ◌, int_le, ◌⊎◌, inl, inr, arith, refl, sym, ap, ap₂, ◌∙◌}
 use Rattle.std.proofs.Common.{subst, append_assoc, append-nil}
 use Rattle.std.specs.List.{AllByRecursion, filter}

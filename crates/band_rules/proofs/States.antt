@@ -5,7 +5,7 @@ use Rattle.std.specs.Str.{bytes_eq}
 use Rattle.std.proofs.lemmas.Bool.{cond-true, cond-false, cond_both, false≢true}
 use Rattle.band_balance.specs.Line.{Entry, entry_named}
 use Rattle.band_balance.specs.Object.{Object, asked}
-use Rattle.band_balance.specs.Rule.{has_name, IsFresh, has_name as is_tag}
+use Rattle.band_balance.specs.Rule.{has_name, IsFresh}
 use Rattle.band_balance.proofs.Held.{other_way}
 use Rattle.band_balance.proofs.Orderly.{pairwise-push}
 use Rattle.band_balance.proofs.Requests.{all-weaker}
@@ -64,8 +64,8 @@ absent name [] is = tt
 absent name (first ∷ rest) is = go (absent name rest) (bytes_eq name first.name) refl _ refl _ refl is
   where
     go : (standing name rest ≡ Absent → AllByRecursion (IsAbsent name) rest) → (b : Bool) → bytes_eq name first.name ≡ b → (request : Option (Entry Tag))
-        → entry_named (is_tag bytes_eq name) (asked first.object) ≡ request
-        → (holding : Option (Entry Tag)) → entry_named (is_tag bytes_eq name) first.object.held ≡ holding → standing_at first b request holding (standing name rest) ≡ Absent
+        → entry_named (has_name bytes_eq name) (asked first.object) ≡ request
+        → (holding : Option (Entry Tag)) → entry_named (has_name bytes_eq name) first.object.held ≡ holding → standing_at first b request holding (standing name rest) ≡ Absent
         → AllByRecursion (IsAbsent name) (first ∷ rest)
     go rests false apart None there None also none = (record { apart = apart; fresh = record { asked = there; held = also } }, rests none)
     go rests b apart request there holding also none = cc

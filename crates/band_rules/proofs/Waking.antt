@@ -25,7 +25,7 @@ use Rattle.band_rules.proofs.States.{IsAt, here, later, with_object_here, with_o
 abbrev AllSound : State → Type 0
 AllSound state = AllByRecursion Sound state
 
--- Nobody is granted in a state that stays, to which a new object may come; where one object changes, those are granted that it grants.
+-- Nobody is told in a state that stays, to which a new object may come; where one object changes, those are told that it tells.
 told_now-push : (state more : State) → AllSound state → told_now state (state ++ more) ≡ []
 told_now-push [] more sound = refl
 told_now-push (first ∷ rest) more sound =
