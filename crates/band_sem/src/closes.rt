@@ -2,9 +2,7 @@
 ghost use Rattle.std.specs.Prelude.{◌≡◌, ◌<◌};
 ghost use Rattle.band_sem.specs.Semaphore.{IsOwn};
 
-use crate::lives::Call::{
-    Again, Ask, Cancel, Close, Collect, Hear, Reduce, Release, TooLate,
-};
+use crate::lives::Call::{Again, Ask, Cancel, Close, Collect, Hear, Reduce, Release, TooLate};
 use crate::lives::lives;
 use crate::tests::{misses, pends, splits_and_merges, takes};
 use crate::{Acquire, Semaphore, SemaphorePermit};

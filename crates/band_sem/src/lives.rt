@@ -1,7 +1,9 @@
 //! Lives of a semaphore, worked out by hand: calls, and what all figures are after each.
 ghost use Rattle.band_sem.specs.Requests.{AreOwn};
 
-use crate::callers::{Outcome, asks, cancels_next, closes, lose_all, polls_next, reduces, releases, takes_wake};
+use crate::callers::{
+    Outcome, asks, cancels_next, closes, lose_all, polls_next, reduces, releases, takes_wake,
+};
 use crate::{Acquire, Semaphore};
 use band_base::{Steps, Waker};
 use std::alloc::Global;

@@ -253,7 +253,8 @@ impl Rules {
         self.waiting.clear();
         self.debts.clear();
         if self.free < 0 {
-            self.debts.push(u64::try_from(self.free.unsigned_abs()).unwrap_or(0))?;
+            self.debts
+                .push(u64::try_from(self.free.unsigned_abs()).unwrap_or(0))?;
         }
         Ok(())
     }
@@ -386,11 +387,7 @@ fn asks_by_rules(
 }
 
 /// A later poll by the rules, of the first of the row, which goes to its end where it waits.
-fn polls_by_rules(
-    rules: &mut Rules,
-    names: &mut VecDeque<u64>,
-    waker: u64,
-) -> Result<Reply, Fail> {
+fn polls_by_rules(rules: &mut Rules, names: &mut VecDeque<u64>, waker: u64) -> Result<Reply, Fail> {
     let Some(name) = names.pop_front() else {
         return Ok(Reply::Nothing);
     };
@@ -484,7 +481,11 @@ fn count_turn<L: Ledger, R: Abort>(
     let n = amount(row);
     match draws(row, 10) {
         0 | 1 => {
-            let wanted = if side.rules.serves(n) { Reply::Got(n) } else { Reply::Nothing };
+            let wanted = if side.rules.serves(n) {
+                Reply::Got(n)
+            } else {
+                Reply::Nothing
+            };
             let got = tries(sem, n);
             receives(rt, &mut side.permits, got, wanted);
         }
