@@ -18,8 +18,8 @@ use Rattle.band_balance.proofs.Distinct.{once}
 use Rattle.band_sem.proofs.Like.{IsOwn-like, asked-like}
 use Rattle.band_sem.specs.Permit.{Permit}
 use Rattle.band_sem.specs.Request.{Request, Stage, NotPolled, Joined, Finished}
-use Rattle.band_sem.specs.Semaphore.{SemaphoreState, IsLike, IsLawful, IsOwn, SlotsDiffer, Polls, PollsAt, TakesWake, asked, taken, given_back, released, reduced, joined, received, with_waker, told, shut, finished, without_request, cancelled, is_slot}
 use Rattle.band_balance.proofs.Requests.{not_in_front, not_behind, found_behind}
+use Rattle.band_sem.specs.Semaphore.{SemaphoreState, IsLike, IsLawful, IsOwn, SlotsDiffer, Polls, PollsAt, TakesWake, asked, taken, given_back, forgotten, released, reduced, joined, received, with_waker, told, shut, finished, without_request, cancelled, is_slot}
 
 same_slot : (slot : ℕ) → nat_eq slot slot ≡ true
 same_slot slot = grind (arith, nat_tests)
@@ -74,6 +74,9 @@ module _ (mine : Request) (old new : SemaphoreState) (own : IsOwn mine.stage min
 
   pub IsOwn-reduced : (n : ℕ) → new ≡ reduced n old → IsOwn mine.stage mine.size new
   IsOwn-reduced n is = subst (IsOwn mine.stage mine.size) (sym is) (IsOwn-same mine.stage mine.size old _ refl own)
+
+  pub IsOwn-forgotten : (n : ℕ) → new ≡ forgotten n old → IsOwn mine.stage mine.size new
+  IsOwn-forgotten n is = subst (IsOwn mine.stage mine.size) (sym is) (IsOwn-same mine.stage mine.size old _ refl own)
 
   pub IsOwn-given_back : (n : ℕ) → IsLike (given_back n old) new → IsLawful new → IsOwn mine.stage mine.size new
   IsOwn-given_back n is lawful =

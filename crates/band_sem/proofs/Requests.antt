@@ -8,8 +8,8 @@ use Rattle.band_sem.specs.Permit.{Permit}
 use Rattle.band_sem.specs.Request.{Request, NotPolled}
 use Rattle.band_sem.specs.Requests.{AreApart, AreOwn, KeepsOwn}
 use Rattle.band_sem.specs.declared.errors.ReleaseError.{ReleaseError}
-use Rattle.band_sem.specs.Semaphore.{SemaphoreState, IsLike, IsLawful, IsOwn, SlotsDiffer, Polls, TakesWake, taken, given_back, released, reduced, cancelled}
-use Rattle.band_sem.proofs.Own.{SlotsDiffer-new, SlotsDiffer-back, IsOwn-cancels, IsOwn-polls, IsOwn-taken, IsOwn-reduced, IsOwn-released, IsOwn-given_back, IsOwn-wakes}
+use Rattle.band_sem.specs.Semaphore.{SemaphoreState, IsLike, IsLawful, IsOwn, SlotsDiffer, Polls, TakesWake, taken, given_back, forgotten, released, reduced, shut, cancelled}
+use Rattle.band_sem.proofs.Own.{SlotsDiffer-new, SlotsDiffer-back, IsOwn-cancels, IsOwn-polls, IsOwn-taken, IsOwn-reduced, IsOwn-forgotten, IsOwn-released, IsOwn-given_back, IsOwn-shut, IsOwn-wakes}
 
 -- what one keeps all keep
 pub KeepsOwn-each : (old new : SemaphoreState) → ((mine : Request) → IsOwn mine.stage mine.size old → IsOwn mine.stage mine.size new) → KeepsOwn old new
@@ -53,6 +53,9 @@ module _ (old new : SemaphoreState) where
   pub KeepsOwn-reduced : (n : ℕ) → new ≡ reduced n old → KeepsOwn old new
   KeepsOwn-reduced n is = KeepsOwn-each old new (λ mine own. IsOwn-reduced mine old new own n is)
 
+  pub KeepsOwn-forgotten : (n : ℕ) → new ≡ forgotten n old → KeepsOwn old new
+  KeepsOwn-forgotten n is = KeepsOwn-each old new (λ mine own. IsOwn-forgotten mine old new own n is)
+
   pub KeepsOwn-tries : (n : ℕ) (result : Option Permit) → OnSome result (new ≡ taken n old) → IfNone result (new ≡ old) → KeepsOwn old new
   KeepsOwn-tries n (Some permit) some none = KeepsOwn-each old new (λ mine own. IsOwn-taken mine old new own n some)
   KeepsOwn-tries n None some none = KeepsOwn-same none
@@ -63,6 +66,9 @@ module _ (old new : SemaphoreState) where
 
   pub KeepsOwn-given_back : (n : ℕ) → IsLike (given_back n old) new → IsLawful new → KeepsOwn old new
   KeepsOwn-given_back n like lawful = KeepsOwn-each old new (λ mine own. IsOwn-given_back mine old new own n like lawful)
+
+  pub KeepsOwn-shut : IsLike (shut old) new → IsLawful new → KeepsOwn old new
+  KeepsOwn-shut like lawful = KeepsOwn-each old new (λ mine own. IsOwn-shut mine old new own like lawful)
 
   pub KeepsOwn-wakes : (result : Option Waker) → TakesWake old result new → KeepsOwn old new
   KeepsOwn-wakes result woken = KeepsOwn-each old new (λ mine own. IsOwn-wakes mine old new own result woken)

@@ -4,10 +4,19 @@ ghost use Rattle.band_sem.specs.Requests.{AreApart, AreOwn, KeepsOwn};
 ghost use Rattle.band_sem.specs.Semaphore.{IsOwn};
 
 use crate::{Acquire, ReduceError, Semaphore, SemaphorePermit};
-use band_base::{Poll, Steps, Waker};
+use band_base::{Poll, PollError, Steps, Waker};
 use std::collections::VecDeque;
 use std::process::Abort;
 use std::sync::ledger::Ledger;
+
+/// What a call for a request, or a try, has come to.
+pub(crate) enum Outcome {
+    Got(SemaphorePermit),
+    /// The request is at the end of the row, or there was none.
+    Nothing,
+    /// The semaphore is closed, and the request has left the row.
+    Closed,
+}
 
 /// A request goes to the end of the row.
 fn keeps_request<R: Abort>(rt: &R, requests: &mut VecDeque<Acquire>, request: Acquire)
@@ -27,7 +36,7 @@ fn polls<L: Ledger, R: Abort>(
     request: Acquire,
     waker: Waker,
     steps: &mut Steps<L>,
-) -> Option<SemaphorePermit>
+) -> Outcome
     requires own { IsOwn request.stage request.size sem.old }
     requires apart { AreApart request requests.old.items }
     requires others { AreOwn sem.old requests.old.items }
@@ -38,11 +47,15 @@ fn polls<L: Ledger, R: Abort>(
     match request.poll_once(sem, waker, steps) {
         Ok(Poll::Ready(permit)) => {
             request.lose();
-            Some(permit)
+            Outcome::Got(permit)
         }
         Ok(Poll::Pending) => {
             keeps_request(rt, requests, request);
-            None
+            Outcome::Nothing
+        }
+        Err(PollError::Closed) => {
+            request.lose();
+            Outcome::Closed
         }
         Err(error) => {
             request.lose();
@@ -59,7 +72,7 @@ pub(crate) fn asks<L: Ledger, R: Abort>(
     size: u64,
     waker: Waker,
     steps: &mut Steps<L>,
-) -> Option<SemaphorePermit>
+) -> Outcome
     requires { AreOwn sem.old requests.old.items }
     ensures { AreOwn sem.new requests.new.items }
 {
@@ -74,13 +87,13 @@ pub(crate) fn polls_next<L: Ledger, R: Abort>(
     requests: &mut VecDeque<Acquire>,
     waker: Waker,
     steps: &mut Steps<L>,
-) -> Option<SemaphorePermit>
+) -> Outcome
     requires { AreOwn sem.old requests.old.items }
     ensures { AreOwn sem.new requests.new.items }
 {
     match requests.pop_front() {
         Some(request) => polls(rt, sem, requests, request, waker, steps),
-        None => None,
+        None => Outcome::Nothing,
     }
 }
 
@@ -100,10 +113,13 @@ pub(crate) fn cancels_next<L: Ledger, R: Abort>(
     }
 }
 
-pub(crate) fn tries(sem: &mut Semaphore, n: u64) -> Option<SemaphorePermit>
+pub(crate) fn tries(sem: &mut Semaphore, n: u64) -> Outcome
     ensures { KeepsOwn sem.old sem.new }
 {
-    sem.try_acquire(n)
+    match sem.try_acquire(n) {
+        Some(permit) => Outcome::Got(permit),
+        None => Outcome::Nothing,
+    }
 }
 
 pub(crate) fn releases<L: Ledger>(sem: &mut Semaphore, n: u64, steps: &mut Steps<L>) -> bool
@@ -131,6 +147,12 @@ pub(crate) fn drains(sem: &mut Semaphore, up_to: u64) -> u64
     ensures { KeepsOwn sem.old sem.new }
 {
     sem.drain_permits(up_to)
+}
+
+pub(crate) fn closes<L: Ledger>(sem: &mut Semaphore, steps: &mut Steps<L>)
+    ensures { KeepsOwn sem.old sem.new }
+{
+    sem.close(steps);
 }
 
 pub(crate) fn takes_wake(sem: &mut Semaphore) -> Option<u64>

@@ -1,102 +1,13 @@
 //! What is owed stands in the line, and is paid before anybody is served: worked lives of a semaphore.
 ghost use Rattle.std.specs.Prelude.{◌≡◌, ◌<◌};
-ghost use Rattle.band_sem.specs.Requests.{AreOwn};
 
-use crate::callers::{asks, cancels_next, lose_all, reduces, releases, takes_wake};
-use crate::{Acquire, Semaphore};
-use band_base::{Steps, Waker};
+use crate::lives::Call::{Ask, Cancel, Reduce, Refused, Release};
+use crate::lives::lives;
+use band_base::Steps;
 use std::alloc::Global;
-use std::collections::VecDeque;
 use std::marker::Brand;
 use std::process::Abort;
 use std::sync::ledger::{Blank, Ledger};
-
-/// A call of a worked life.
-#[derive(Drop)]
-enum Call {
-    /// A request of this size with this waker, which has to wait.
-    Ask(u64, u64),
-    /// The oldest request gives up.
-    Cancel,
-    Release(u64),
-    Reduce(u64),
-    /// More than may be owed.
-    Refused(u64),
-}
-
-use Call::{Ask, Cancel, Reduce, Refused, Release};
-
-/// A call, and then what is free, and what is available, how many wait, how much is granted and how many nodes
-/// there are.
-type Line = (Call, i128, [u64; 4]);
-
-fn make<L: Ledger, R: Abort>(
-    rt: &R,
-    sem: &mut Semaphore,
-    requests: &mut VecDeque<Acquire>,
-    call: &Call,
-    steps: &mut Steps<L>,
-)
-    requires { AreOwn sem.old requests.old.items }
-    ensures { AreOwn sem.new requests.new.items }
-{
-    match call {
-        Ask(size, waker) => {
-            if let Some(permit) = asks(rt, sem, requests, *size, Waker(*waker), steps) {
-                permit.lose();
-                panic!(rt; "it was to wait");
-            }
-        }
-        Cancel => cancels_next(rt, sem, requests, steps),
-        Release(n) => assert!(rt; releases(sem, *n, steps)),
-        Reduce(n) => assert!(rt; reduces(rt, sem, *n, steps)),
-        Refused(n) => assert!(rt; !reduces(rt, sem, *n, steps)),
-    }
-}
-
-fn figures(sem: &Semaphore) -> [u64; 4] {
-    [
-        sem.available_permits(),
-        sem.waiting_count(),
-        sem.granted_permits(),
-        sem.line().occupied_len(),
-    ]
-}
-
-fn calls<L: Ledger, R: Abort>(
-    rt: &R,
-    sem: &mut Semaphore,
-    requests: &mut VecDeque<Acquire>,
-    life: &[Line],
-    steps: &mut Steps<L>,
-)
-    requires { AreOwn sem.old requests.old.items }
-{
-    for (next, free, wanted) in life {
-        make(rt, sem, requests, next, steps);
-        assert_eq!(rt; sem.free(), *free);
-        assert_eq!(rt; figures(sem), *wanted);
-    }
-}
-
-/// A life of a semaphore of so many permits, and then the wakers to wake.
-fn lives<L: Ledger, R: Abort>(
-    rt: &R,
-    alloc: Global,
-    permits: u64,
-    life: &[Line],
-    wakes: &[u64],
-    steps: &mut Steps<L>,
-) {
-    let mut sem = Semaphore::new(alloc, 5, permits);
-    let mut requests = VecDeque::new(alloc);
-    calls(rt, &mut sem, &mut requests, life, steps);
-    for waker in wakes {
-        assert_eq!(rt; takes_wake(&mut sem), Some(*waker));
-    }
-    assert_eq!(rt; takes_wake(&mut sem), None);
-    lose_all(requests);
-}
 
 /// The debt that was made last is paid first, also in part. A debt that is paid leaves no node.
 fn debts_are_paid<L: Ledger, R: Abort>(rt: &R, alloc: Global, steps: &mut Steps<L>) {

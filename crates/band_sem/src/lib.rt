@@ -18,7 +18,11 @@ pub use semaphore::Semaphore;
 #[cfg(test)]
 mod callers;
 #[cfg(test)]
+mod closes;
+#[cfg(test)]
 mod debts;
+#[cfg(test)]
+mod lives;
 #[cfg(test)]
 mod mixed;
 #[cfg(test)]

@@ -3,7 +3,8 @@ ghost use Rattle.std.specs.Prelude.{◌≡◌, [], ◌<◌};
 ghost use Rattle.band_sem.specs.Requests.{AreOwn, KeepsOwn};
 
 use crate::callers::{
-    asks, cancels_next, drains, lose_all, polls_next, reduces, releases, takes_wake, tries,
+    Outcome, asks, cancels_next, closes, drains, lose_all, polls_next, reduces, releases,
+    takes_wake, tries,
 };
 use crate::{Acquire, Semaphore, SemaphorePermit};
 use band_base::{Steps, Waker};
@@ -22,6 +23,14 @@ struct Asked {
     waker: u64,
 }
 
+/// What a call for a request, or a try, comes to by the rules.
+#[derive(Drop)]
+enum Reply {
+    Got(u64),
+    Nothing,
+    Closed,
+}
+
 /// What there is, by the rules: a signed number of free permits, and plain vectors. The debt that was made last
 /// is the last.
 #[derive(Drop)]
@@ -32,6 +41,8 @@ struct Rules {
     granted: Vec<Asked>,
     debts: Vec<u64>,
     wakes: VecDeque<u64>,
+    closed: bool,
+    ended: Vec<u64>,
 }
 
 impl Rules {
@@ -43,6 +54,8 @@ impl Rules {
             granted: Vec::new(alloc),
             debts: Vec::new(alloc),
             wakes: VecDeque::new(alloc),
+            closed: false,
+            ended: Vec::new(alloc),
         }
     }
 
@@ -63,7 +76,8 @@ impl Rules {
 
     fn nodes(&self) -> u64 {
         let linked = (self.waiting.len() as u64).wrapping_add(self.debts.len() as u64);
-        linked.wrapping_add(self.granted.len() as u64)
+        let unlinked = (self.granted.len() as u64).wrapping_add(self.ended.len() as u64);
+        linked.wrapping_add(unlinked)
     }
 
     /// All permits with `n` more.
@@ -79,7 +93,7 @@ impl Rules {
     }
 
     fn serves(&mut self, size: u64) -> bool {
-        if size > self.available() {
+        if self.closed || size > self.available() {
             return false;
         }
         self.takes(size);
@@ -87,12 +101,26 @@ impl Rules {
         true
     }
 
-    fn first_poll(&mut self, asked: Asked) -> Result<bool, Fail> {
-        let served = self.serves(asked.size);
-        if !served {
-            self.waiting.push(asked)?;
+    fn first_poll(&mut self, asked: Asked) -> Result<Reply, Fail> {
+        if self.closed {
+            return Ok(Reply::Closed);
         }
-        Ok(served)
+        if self.serves(asked.size) {
+            return Ok(Reply::Got(asked.size));
+        }
+        self.waiting.push(asked)?;
+        Ok(Reply::Nothing)
+    }
+
+    /// The request of this name was ended, and hears of it.
+    fn hears(&mut self, name: u64) -> bool {
+        match self.ended.iter().position(|ended| *ended == name) {
+            Some(place) => {
+                let _ = self.ended.remove(place);
+                true
+            }
+            None => false,
+        }
     }
 
     /// The request of this name leaves those granted, if it was granted.
@@ -101,17 +129,20 @@ impl Rules {
         Some(self.granted.remove(place).size)
     }
 
-    fn later_poll(&mut self, name: u64, waker: u64) -> Option<u64> {
+    fn later_poll(&mut self, name: u64, waker: u64) -> Reply {
+        if self.hears(name) {
+            return Reply::Closed;
+        }
         if let Some(size) = self.collect(name) {
             self.held = self.held.wrapping_add(size);
-            return Some(size);
+            return Reply::Got(size);
         }
         for asked in self.waiting.iter_mut() {
             if asked.name == name {
                 asked.waker = waker;
             }
         }
-        None
+        Reply::Nothing
     }
 
     /// What the first that waits has already: what is free and what is owed.
@@ -131,6 +162,9 @@ impl Rules {
     }
 
     fn cancel(&mut self, name: u64) -> Result<(), Fail> {
+        if self.hears(name) {
+            return Ok(());
+        }
         if let Some(size) = self.collect(name) {
             return self.comes_back(size);
         }
@@ -207,6 +241,22 @@ impl Rules {
         let count = up_to.min(self.available());
         self.takes(count);
         count
+    }
+
+    /// All that wait are ended and to be woken, and what is owed is one debt.
+    fn close(&mut self) -> Result<(), Fail> {
+        self.closed = true;
+        for asked in self.waiting.iter() {
+            self.ended.push(asked.name)?;
+            self.wakes.push_back(asked.waker)?;
+        }
+        self.waiting.clear();
+        self.debts.clear();
+        if self.free < 0 {
+            self.debts
+                .push(u64::try_from(self.free.unsigned_abs()).unwrap_or(0))?;
+        }
+        Ok(())
     }
 
     fn forget(&mut self, n: u64) {
@@ -290,20 +340,21 @@ fn ends_by_rules(rules: &mut Rules, count: u64, how: u64) -> Result<(), Fail> {
     }
 }
 
-/// The permit is of so many, and goes to the others, or there is none.
+/// What is got is what is wanted. A permit goes to the others.
 fn receives<R: Abort>(
     rt: &R,
     permits: &mut VecDeque<SemaphorePermit>,
-    got: Option<SemaphorePermit>,
-    wanted: Option<u64>,
+    got: Outcome,
+    wanted: Reply,
 ) {
     match got {
-        Some(permit) => {
+        Outcome::Got(permit) => {
             let count = permit.permits();
             keeps_permit(rt, permits, permit);
-            assert_eq!(rt; Some(count), wanted);
+            assert!(rt; matches!(wanted, Reply::Got(size) if size == count));
         }
-        None => assert_eq!(rt; None, wanted),
+        Outcome::Nothing => assert!(rt; matches!(wanted, Reply::Nothing)),
+        Outcome::Closed => assert!(rt; matches!(wanted, Reply::Closed)),
     }
 }
 
@@ -315,39 +366,36 @@ fn agrees<R: Abort>(rt: &R, sem: &Semaphore, rules: &Rules) {
     assert_eq!(rt; sem.granted_permits(), rules.granted_sum());
     assert_eq!(rt; sem.held_permits(), rules.held);
     assert_eq!(rt; sem.line().occupied_len(), rules.nodes());
+    assert_eq!(rt; sem.is_closed(), rules.closed);
     assert_eq!(rt;
         sem.line().is_empty(),
         rules.waiting.is_empty() && rules.debts.is_empty()
     );
 }
 
-/// A first poll by the rules. One that waits has its name at the end of the row. The answer is what is got.
+/// A first poll by the rules. One that waits has its name at the end of the row.
 fn asks_by_rules(
     rules: &mut Rules,
     names: &mut VecDeque<u64>,
     asked: Asked,
-) -> Result<Option<u64>, Fail> {
-    if rules.first_poll(asked)? {
-        return Ok(Some(asked.size));
+) -> Result<Reply, Fail> {
+    let reply = rules.first_poll(asked)?;
+    if matches!(&reply, Reply::Nothing) {
+        names.push_back(asked.name)?;
     }
-    names.push_back(asked.name)?;
-    Ok(None)
+    Ok(reply)
 }
 
 /// A later poll by the rules, of the first of the row, which goes to its end where it waits.
-fn polls_by_rules(
-    rules: &mut Rules,
-    names: &mut VecDeque<u64>,
-    waker: u64,
-) -> Result<Option<u64>, Fail> {
+fn polls_by_rules(rules: &mut Rules, names: &mut VecDeque<u64>, waker: u64) -> Result<Reply, Fail> {
     let Some(name) = names.pop_front() else {
-        return Ok(None);
+        return Ok(Reply::Nothing);
     };
-    let got = rules.later_poll(name, waker);
-    if got.is_none() {
+    let reply = rules.later_poll(name, waker);
+    if matches!(&reply, Reply::Nothing) {
         names.push_back(name)?;
     }
-    Ok(got)
+    Ok(reply)
 }
 
 /// What the calls have made: the semaphore, its requests and permits, and the same by the rules.
@@ -433,7 +481,11 @@ fn count_turn<L: Ledger, R: Abort>(
     let n = amount(row);
     match draws(row, 10) {
         0 | 1 => {
-            let wanted = side.rules.serves(n).then_some(n);
+            let wanted = if side.rules.serves(n) {
+                Reply::Got(n)
+            } else {
+                Reply::Nothing
+            };
             let got = tries(sem, n);
             receives(rt, &mut side.permits, got, wanted);
         }
@@ -494,21 +546,40 @@ impl Side {
     }
 }
 
-/// Some hundred calls, one after the other.
+/// So many calls, one after the other.
 fn turns<L: Ledger, R: Abort>(
     rt: &R,
     sem: &mut Semaphore,
     side: &mut Side,
+    row: &mut u64,
+    count: u64,
+    steps: &mut Steps<L>,
+) -> Result<(), Fail>
+    requires { AreOwn sem.old side.old.requests.items }
+    ensures { AreOwn sem.new side.new.requests.items }
+{
+    for _ in 0..count {
+        turn(rt, sem, side, row, steps)?;
+        agrees(rt, sem, &side.rules);
+    }
+    Ok(())
+}
+
+/// Some hundred calls, of which one in the midst closes the semaphore.
+fn life<L: Ledger, R: Abort>(
+    rt: &R,
+    sem: &mut Semaphore,
+    side: &mut Side,
+    row: &mut u64,
     steps: &mut Steps<L>,
 ) -> Result<(), Fail>
     requires { AreOwn sem.old side.old.requests.items }
 {
-    let mut row = 1;
-    for _ in 0..900 {
-        turn(rt, sem, side, &mut row, steps)?;
-        agrees(rt, sem, &side.rules);
-    }
-    Ok(())
+    turns(rt, sem, side, row, 300, steps)?;
+    closes(sem, steps);
+    side.rules.close()?;
+    agrees(rt, sem, &side.rules);
+    turns(rt, sem, side, row, 100, steps)
 }
 
 fn mixed<L: Ledger, R: Abort>(rt: &R, alloc: Global, blank: Blank) -> Result<(), Fail>
@@ -517,11 +588,15 @@ fn mixed<L: Ledger, R: Abort>(rt: &R, alloc: Global, blank: Blank) -> Result<(),
     requires some { 0 < blank.parts }
 {
     let mut steps: Steps<L> = Steps::new(blank);
-    let mut sem = Semaphore::new(alloc, 5, 3);
-    let mut side = Side::new(alloc, 3);
-    let played = turns(rt, &mut sem, &mut side, &mut steps);
-    side.lose();
-    played
+    let mut row = 1;
+    for permits in 1..4 {
+        let mut sem = Semaphore::new(alloc, 5, permits);
+        let mut side = Side::new(alloc, permits);
+        let played = life(rt, &mut sem, &mut side, &mut row, &mut steps);
+        side.lose();
+        played?;
+    }
+    Ok(())
 }
 
 #[test]

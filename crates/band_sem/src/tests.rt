@@ -14,7 +14,7 @@ use std::sync::ledger::{Blank, Ledger};
 use std::test::Fail;
 
 /// A poll that leaves the request waiting.
-fn pends<L: Ledger, R: Abort>(
+pub(crate) fn pends<L: Ledger, R: Abort>(
     rt: &R,
     request: &mut Acquire,
     sem: &mut Semaphore,
@@ -124,7 +124,7 @@ fn adds<L: Ledger, R: Abort>(rt: &R, sem: &mut Semaphore, n: u64, steps: &mut St
 }
 
 /// Takes permits that are there.
-fn takes<R: Abort>(rt: &R, sem: &mut Semaphore, n: u64) -> SemaphorePermit
+pub(crate) fn takes<R: Abort>(rt: &R, sem: &mut Semaphore, n: u64) -> SemaphorePermit
     ensures permit { result ≡ new_permit sem.old.number n }
     ensures state { sem.new ≡ taken n sem.old }
     ensures lawful { IsLawful sem.new }
@@ -136,7 +136,7 @@ fn takes<R: Abort>(rt: &R, sem: &mut Semaphore, n: u64) -> SemaphorePermit
 }
 
 /// Takes more permits than are there.
-fn misses<R: Abort>(rt: &R, sem: &mut Semaphore, n: u64)
+pub(crate) fn misses<R: Abort>(rt: &R, sem: &mut Semaphore, n: u64)
     ensures { sem.new ≡ sem.old }
 {
     if let Some(permit) = sem.try_acquire(n) {
@@ -213,7 +213,7 @@ fn who_waits_is_served_first(rt: HostRuntime) {
 }
 
 /// What is split off and merged again changes nothing.
-fn splits_and_merges<R: Abort>(rt: &R, permit: &mut SemaphorePermit, n: u64)
+pub(crate) fn splits_and_merges<R: Abort>(rt: &R, permit: &mut SemaphorePermit, n: u64)
     requires { permit.old.count ≤ u64.MAX }
     ensures { permit.new ≡ permit.old }
 {
