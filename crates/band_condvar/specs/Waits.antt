@@ -51,7 +51,7 @@ pub record Wait : Type 0 where
 abbrev pub IsHere : Stage → CondvarState → SemaphoreState → Type 0
 IsHere (Enqueue guard) condvar mutex = guard.count ≤ mutex.held
 IsHere (Registered slot) condvar mutex = IsSome (place_at slot condvar)
-IsHere (Reacquiring baton slot) condvar mutex = IsOwn (Joined slot) 1 mutex.line
+IsHere (Reacquiring baton slot) condvar mutex = IsOwn (Joined slot) 1 mutex
 IsHere Finished condvar mutex = Unit {0}
 
 -- a wait that is registered is in the condition variable
@@ -83,7 +83,7 @@ Leaves baton slot of waker old (Ok (Ready guard)) stage new =
 Leaves baton slot of waker old (Ok Pending) stage new =
     (is_served 1 old.mutex.line ≡ false)
     × ((place : ℕ)
-    × (entry_named (is_slot place) (requests old.mutex.line) ≡ None)
+    × (entry_named (is_slot place) (asked old.mutex) ≡ None)
     × (stage ≡ Reacquiring baton place)
     × (new ≡ monitor (gone slot old.condvar) (sem.joined place 1 waker.0 old.mutex)))
 Leaves baton slot of waker old (Err errors.NoMemory) stage new =
