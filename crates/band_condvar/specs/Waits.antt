@@ -3,7 +3,7 @@ use Rattle.std.specs.Prelude.{◌≡◌, ◌≢◌, ℕ, ◌+◌, ◌*◌, ◌�
 use Rattle.std.specs.Borrow.{MutBor}
 use Rattle.std.specs.Option.{option_map_or}
 use Rattle.std.specs.Fn.{Mut, Takes, CalledAtMut}
-use Rattle.band_balance.specs.Line.{requests, total, is_served, entry_named}
+use Rattle.band_balance.specs.Line.{total, is_served, entry_named}
 use Rattle.band_base.specs.declared.poll.Poll.{Poll}
 use Rattle.band_base.specs.declared.poll.Poll.TheVariants.{Ready, Pending}
 use Rattle.band_base.specs.declared.poll.PollError.{PollError}
@@ -16,7 +16,7 @@ use Rattle.band_sem.specs.Laws as sem_laws
 use Rattle.band_sem.specs.Permit.{Permit, new_permit}
 use Rattle.band_sem.specs.Request.{Joined}
 use Rattle.band_sem.specs.Semaphore as sem
-use Rattle.band_sem.specs.Semaphore.{SemaphoreState, IsLike, IsOwn, is_slot, taken, given_back, received, without_request}
+use Rattle.band_sem.specs.Semaphore.{SemaphoreState, IsLike, IsOwn, is_slot, asked, taken, given_back, received, without_request}
 use Rattle.band_sem.specs.Visits.{served}
 use Rattle.band_condvar.specs.declared.place.Place.{Place}
 use Rattle.band_condvar.specs.declared.place.Place.TheVariants.{Queued, Chosen, Released}
@@ -46,12 +46,12 @@ pub record Wait : Type 0 where
   pub of : ℕ
   pub stage : Stage
 
--- what a wait has is counted: its guard is held, its registration is in the condition variable, its request is in the
--- mutex's line
+-- what a wait has is counted: its guard is held, its registration is in the condition variable, its request has its slot
+-- in the mutex
 abbrev pub IsHere : Stage → CondvarState → SemaphoreState → Type 0
 IsHere (Enqueue guard) condvar mutex = guard.count ≤ mutex.held
 IsHere (Registered slot) condvar mutex = IsSome (place_at slot condvar)
-IsHere (Reacquiring baton slot) condvar mutex = IsOwn (Joined slot) 1 mutex.line
+IsHere (Reacquiring baton slot) condvar mutex = IsOwn (Joined slot) 1 mutex
 IsHere Finished condvar mutex = Unit {0}
 
 -- a wait that is registered is in the condition variable
@@ -83,7 +83,7 @@ Leaves baton slot of waker old (Ok (Ready guard)) stage new =
 Leaves baton slot of waker old (Ok Pending) stage new =
     (is_served 1 old.mutex.line ≡ false)
     × ((place : ℕ)
-    × (entry_named (is_slot place) (requests old.mutex.line) ≡ None)
+    × (entry_named (is_slot place) (asked old.mutex) ≡ None)
     × (stage ≡ Reacquiring baton place)
     × (new ≡ monitor (gone slot old.condvar) (sem.joined place 1 waker.0 old.mutex)))
 Leaves baton slot of waker old (Err errors.NoMemory) stage new =

@@ -1,5 +1,5 @@
 //! What a wait has come to.
-ghost use Rattle.std.specs.Prelude.{◌≡◌, ◌+◌, ◌++◌, ◌≤◌, false, IsSome, if◌then◌else◌};
+ghost use Rattle.std.specs.Prelude.{◌≡◌, ◌+◌, ◌++◌, ◌≤◌, false, IsSome, IsErrOf, if◌then◌else◌};
 ghost use Rattle.band_balance.specs.Line.{is_served};
 ghost use Rattle.band_base.specs.declared.poll.Poll.TheVariants as poll;
 ghost use Rattle.band_condvar.specs.Condvar.{IsCondvar, place_at, is_queued, one_notified, AllStay};
@@ -53,6 +53,8 @@ impl Stage {
         requires here { IsHere (stage_of self) queue.old.state m.old }
         ensures polls { PollsAt (stage_of self) m.old.number waker (monitor queue.old.state m.old)
             result.answer (stage_of result.next) (monitor queue.new.state m.new) }
+        // Its mutex is never closed.
+        ensures never_closed { IsErrOf result.answer PollError.Closed → ⊥ }
         ensures fits { Fits m.old.number result.next }
         ensures here { IsHere (stage_of result.next) queue.new.state m.new }
         ensures others { LeavesOthers (stage_of self) queue.old.state queue.new.state }
@@ -81,6 +83,7 @@ impl Stage {
         requires here { IsHere (stage_of self) queue.old.state m.old }
         ensures acquires { Acquires (stage_of self) m.old.number waker (monitor queue.old.state m.old)
             result.answer (stage_of result.next) (monitor queue.new.state m.new) }
+        ensures never_closed { IsErrOf result.answer PollError.Closed → ⊥ }
         ensures fits { Fits m.old.number result.next }
         ensures guard { GivesGuardOf m.new.number result.answer }
         ensures here { IsHere (stage_of result.next) queue.new.state m.new }
@@ -254,6 +257,7 @@ fn enqueue<L: Ledger>(
     requires held { guard.count ≤ m.old.held }
     ensures registers { Registers guard waker (monitor queue.old.state m.old)
         result.answer (stage_of result.next) (monitor queue.new.state m.new) }
+    ensures never_closed { IsErrOf result.answer PollError.Closed → ⊥ }
     ensures fits { Fits m.old.number result.next }
     ensures here { IsHere (stage_of result.next) queue.new.state m.new }
     ensures others { LeavesOthers (Enqueue guard) queue.old.state queue.new.state }
@@ -291,6 +295,7 @@ fn leave<L: Ledger>(
     requires called { is_queued (place_at id queue.old.state) ≡ false }
     ensures leaves { Leaves has_baton id m.old.number waker (monitor queue.old.state m.old)
         result.answer (stage_of result.next) (monitor queue.new.state m.new) }
+    ensures never_closed { IsErrOf result.answer PollError.Closed → ⊥ }
     ensures fits { Fits m.old.number result.next }
     ensures guard { GivesGuardOf m.new.number result.answer }
     ensures here { IsHere (stage_of result.next) queue.new.state m.new }
@@ -338,9 +343,10 @@ fn reacquire<L: Ledger>(
     steps: &mut Steps<L>,
 ) -> Polled
     requires fits { Fits m.old.number (stages.Reacquiring request has_baton) }
-    requires own { IsOwn (Joined (slot_of request.stage)) 1 m.old.line }
+    requires own { IsOwn (Joined (slot_of request.stage)) 1 m.old }
     ensures reacquires { Reacquires has_baton (slot_of request.stage) m.old.number waker
         (monitor queue.now.state m.old) result.answer (stage_of result.next) (monitor queue.now.state m.new) }
+    ensures never_closed { IsErrOf result.answer PollError.Closed → ⊥ }
     ensures fits { Fits m.old.number result.next }
     ensures guard { GivesGuardOf m.new.number result.answer }
     ensures here { IsHere (stage_of result.next) queue.now.state m.new }

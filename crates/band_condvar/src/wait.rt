@@ -1,5 +1,5 @@
 //! A wait for a condition variable.
-ghost use Rattle.std.specs.Prelude.{◌≡◌, ◌+◌, ◌++◌, ◌≤◌};
+ghost use Rattle.std.specs.Prelude.{◌≡◌, ◌+◌, ◌++◌, ◌≤◌, IsErrOf};
 ghost use Rattle.band_base.specs.declared.poll.Poll.TheVariants as poll;
 ghost use Rattle.band_condvar.specs.Condvar.{IsCondvar};
 ghost use Rattle.band_condvar.specs.Kept.Queue.{HasRoom};
@@ -66,6 +66,8 @@ impl CondWait {
         requires number { self.old.of ≡ m.old.number }
         requires here { IsHere self.old.stage cv.old m.old }
         ensures polls { Polls self.old waker (monitor cv.old m.old) result self.new (monitor cv.new m.new) }
+        // Its mutex is never closed.
+        ensures never_closed { IsErrOf result PollError.Closed → ⊥ }
         ensures here { IsHere self.new.stage cv.new m.new }
         ensures others { LeavesOthers self.old.stage cv.old cv.new }
         ensures number { m.new.number ≡ m.old.number }
@@ -109,6 +111,7 @@ impl CondWait {
         ensures of { self.new.of ≡ self.old.of }
         ensures acquires { Acquires self.old.stage self.old.of waker (monitor queue.old.state m.old)
             result self.new.stage (monitor queue.new.state m.new) }
+        ensures never_closed { IsErrOf result PollError.Closed → ⊥ }
         ensures guard { GivesGuardOf m.new.number result }
         ensures here { IsHere self.new.stage queue.new.state m.new }
         ensures others { LeavesOthers self.old.stage queue.old.state queue.new.state }

@@ -1,5 +1,5 @@
 //! A wait for as long as a condition answers true.
-ghost use Rattle.std.specs.Prelude.{◌≡◌, ◌+◌, ◌++◌, ◌≤◌, IsTrue};
+ghost use Rattle.std.specs.Prelude.{◌≡◌, ◌+◌, ◌++◌, ◌≤◌, IsTrue, IsErrOf};
 ghost use Rattle.band_condvar.specs.Condvar.{IsCondvar};
 ghost use Rattle.band_condvar.specs.Kept.Queue.{HasRoom};
 ghost use Rattle.band_condvar.specs.Waits.{Enqueue, Finished, IsHere, woken_by, LeavesMutex, has_turn, monitor, test, Answers, Asks, PollsWhile, LeavesOthers, OthersStay, LetsGo, cancelled, TakesAtMut, WhileVisits, CancelVisits, unlock_visits};
@@ -63,6 +63,8 @@ impl<F> CondWaitWhile<F> {
         ensures polls { PollsWhile F.FnMut self.old.wait waker (test self.old.condition value.old)
             (monitor cv.old m.old) result (test self.new.condition value.new) self.new.wait
             (monitor cv.new m.new) }
+        // Its mutex is never closed.
+        ensures never_closed { IsErrOf result PollError.Closed → ⊥ }
         ensures here { IsHere self.new.wait.stage cv.new m.new }
         ensures others { LeavesOthers self.old.wait.stage cv.old cv.new }
         ensures number { m.new.number ≡ m.old.number }

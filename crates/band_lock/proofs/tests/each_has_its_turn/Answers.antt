@@ -11,7 +11,7 @@ poll_once-requires-4-clause-own g c =
     let fresh = ap (λ r. r.stage) c.read-second.ensures in
     let both = IsOwn-polls mine c.poll_once-2.new.l.shares c.poll_once-3.new.l.shares joined c.read-second.result c.poll_once-3.new.self 3 c.poll_once-3.result
     (subst (SlotsDiffer mine.stage) (sym fresh) (SlotsDiffer-new mine.stage)) c.poll_once-3.ensures.polls in
-    let tried : IsOwn mine.stage mine.size c.try_read.new.self.shares.line = rw (rw c.unserved.ensures at c.try_read.ensures.none) both.0 in
+    let tried : IsOwn mine.stage mine.size c.try_read.new.self.shares = rw (rw c.unserved.ensures at c.try_read.ensures.none) both.0 in
     let given = IsOwn-given_back mine c.try_read.new.self.shares c.drop_read.new.self.shares tried 1 c.drop_read.ensures.state.shares c.drop_read.ensures.lawful in
     let woken = IsOwn-wakes mine c.drop_read.new.self.shares c.take_wake.new.self.shares given c.take_wake.result c.take_wake.ensures.woken in
     IsOwn-wakes mine c.take_wake.new.self.shares c.take_wake-2.new.self.shares woken c.take_wake-2.result c.take_wake-2.ensures.woken
@@ -25,7 +25,7 @@ poll_once-requires-5-clause-own g c =
     let both = IsOwn-polls writer c.poll_once-2.new.l.shares c.poll_once-3.new.l.shares writer_joined c.read-second.result mine 3 c.poll_once-3.result
     (subst (SlotsDiffer writer.stage) (sym fresh) (SlotsDiffer-new writer.stage)) c.poll_once-3.ensures.polls in
     let joined = IsOwn-asked c.read-second.result mine 3 c.poll_once-2.new.l.shares c.poll_once-3.new.l.shares c.poll_once-3.result fresh c.poll_once-3.ensures.polls in
-    let tried : IsOwn mine.stage mine.size c.try_read.new.self.shares.line = rw (rw c.unserved.ensures at c.try_read.ensures.none) joined in
+    let tried : IsOwn mine.stage mine.size c.try_read.new.self.shares = rw (rw c.unserved.ensures at c.try_read.ensures.none) joined in
     let given = IsOwn-given_back mine c.try_read.new.self.shares c.drop_read.new.self.shares tried 1 c.drop_read.ensures.state.shares c.drop_read.ensures.lawful in
     let woken = IsOwn-wakes mine c.drop_read.new.self.shares c.take_wake.new.self.shares given c.take_wake.result c.take_wake.ensures.woken in
     let none = IsOwn-wakes mine c.take_wake.new.self.shares c.take_wake-2.new.self.shares woken c.take_wake-2.result c.take_wake-2.ensures.woken in
