@@ -1,5 +1,6 @@
 mod Batons
 mod Lines
+mod Order
 mod Queues
 mod Requests
 mod While

@@ -68,6 +68,7 @@ impl<F> CondWaitWhile<F> {
         ensures here { IsHere self.new.wait.stage cv.new m.new }
         ensures others { LeavesOthers self.old.wait.stage cv.old cv.new }
         ensures number { m.new.number ≡ m.old.number }
+        ensures order { KeepsOrder m.old.line m.new.line }
         ensures sound { IsCondvar cv.new }
         ensures lawful { IsLawful m.new }
         ensures whole { IsWhole 1 m.new }

@@ -2,6 +2,7 @@ use Rattle.std.proofs.Common.{ap, sym, ◌∙◌, subst, Ok}
 use Rattle.band_base.specs.declared.poll.Poll.TheVariants.{Pending}
 use Rattle.band_condvar.specs.Condvar.{with_spare}
 use Rattle.band_condvar.specs.Waits.{monitor, test, PollsWhile}
+use Rattle.band_condvar.proofs.Order.{asked-order}
 use Rattle.band_condvar.proofs.While.{made-room, while-waits, while-asks}
 use Rattle.band_condvar.proofs.wait_while.CondWaitWhile.poll.Goals as goal
 
@@ -35,3 +36,9 @@ returns-in-Ready-clause-polls g c =
     after c.ask.new.self.wait new) c.cv.view_is polls in
     subst (λ self. PollsWhile g.F.FnMut self.wait c.args.waker (test self.condition c.args.value.now) (monitor c.args.cv.now c.args.m.now) (Ok c.ask.result)
     after c.ask.new.self.wait new) c.self.view_is at_cv
+
+pub returns-in-Ready-clause-order : goal.returns-in-Ready-clause-order
+returns-in-Ready-clause-order g c =
+    asked-order g.F.FnMut c.self.inside.wait.stage c.self.inside.wait.of c.args.waker (monitor c.reserve.new.self.state c.args.m.now) c.in-Ready.guard c.in-Ready.guard c.acquire.new.self.stage
+    (monitor c.acquire.new.queue.state c.acquire.new.m) c.ask.result (test c.self.inside.condition c.args.value.now) (test c.ask.new.self.condition c.ask.new.value) c.ask.new.self.wait.stage
+    (monitor c.ask.new.queue.state c.ask.new.m) (rw c.in-Ready.is at c.in_ok-guard.ensures.acquires) c.acquire.ensures.order c.ask.ensures.asks
