@@ -1,8 +1,8 @@
 -- How many nodes of lines the playing of a script visits.
-use Rattle.std.specs.Prelude.{◌≡◌, ◌↔◌, ◌⊎◌, ℕ, ◌+◌, ◌*◌, ◌≤◌, List, length, take, Option, Some, None}
-use Rattle.std.specs.Prelude.{Result, Ok, Err, IsOk}
+use Rattle.std.specs.Prelude.{◌≡◌, ◌⊎◌, ℕ, ◌+◌, ◌*◌, ◌≤◌, List, length, take, Option, Some, None}
+use Rattle.std.specs.Prelude.{Result, Ok, Err}
 use Rattle.band_play.specs.Bulk.{bulk_calls}
-use Rattle.band_play.specs.Play.{Gave, AskToPlay, AskForBulk, AreOthers, program_limit}
+use Rattle.band_play.specs.Play.{Gave, End, Plays, EndsWith, AskToPlay, AskForBulk, AreOthers, program_limit}
 use Rattle.band_play.specs.declared.fault.PlayFault.{PlayFault}
 use Rattle.band_play.specs.declared.fault.PlayFault.TheVariants as faults
 use Rattle.band_play.specs.declared.playing.Playing.{Playing}
@@ -31,11 +31,12 @@ pub record VisitsFew (limit : ℕ) (first last : Option (List ℕ)) (answer : Re
   pub answered : VisitsBy answer before after
   pub taken : Gave (λ given. after ≤ before + 16 * length (lines_of (take limit given))) first last
 
--- The program visits what `play` does, at most sixteen for each line of a bulk script, and nothing with other words.
-abbrev pub RunVisits : List (List ℕ) → Option (List ℕ) → Option (List ℕ) → ℕ → ℕ → ℕ → Type 0
-RunVisits words first last status before after =
-    (AskToPlay words × ((answer : Result ℕ PlayFault)
-    × VisitsFew program_limit first last answer before after × ((status ≡ 0) ↔ IsOk answer)))
+-- The program visits what `play` does with the answer that it ends with, at most sixteen for each line of a bulk script,
+-- and nothing with other words.
+abbrev pub RunVisits : List (List ℕ) → End → End → End → ℕ → ℕ → ℕ → Type 0
+RunVisits words source sink told status before after =
+    (AskToPlay words × ((answer : Result ℕ PlayFault) × Plays program_limit source sink answer
+    × EndsWith answer status told × VisitsFew program_limit source.before source.after answer before after))
     ⊎ (((n : ℕ) × AskForBulk n words × AddsFew (length (bulk_calls n)) before after)
     ⊎ (AreOthers words × (after ≡ before)))
 

@@ -36,7 +36,8 @@ pub fn run<S: Source, D: Sink, E: Sink, L: Ledger>(
     ensures unread { (AskToPlay (map string_bytes words.now) → ⊥) → src.new ≡ src.old }
     ensures untouched { AreOthers (map string_bytes words.now) → dst.new ≡ dst.old }
     ensures quiet { result ≡ 0 → err.new ≡ err.old }
-    ensures visits { RunVisits (map string_bytes words.now) (S.left src.old) (S.left src.new) result
+    ensures visits { RunVisits (map string_bytes words.now) (end_of S.left S.faults src.old src.new)
+        (end_of D.written D.faults dst.old dst.new) (end_of E.written E.faults err.old err.new) result
         steps.old steps.new }
     ensures writes_never_fall { D.faults dst.old ≤ D.faults dst.new }
     ensures tells_never_fall { E.faults err.old ≤ E.faults err.new }

@@ -1,5 +1,5 @@
 //! What the promises of `play` and of the program say, clause by clause.
-ghost use Rattle.std.specs.Prelude.{◌≡◌, ℕ, ◌+◌, ◌<◌, ◌≤◌, ◌⊎◌, List, [], ◌∷◌, ◌++◌, length, map, string_bytes, OnOk, IfOk, Some, Err};
+ghost use Rattle.std.specs.Prelude.{◌≡◌, ℕ, ◌+◌, ◌*◌, ◌<◌, ◌≤◌, ◌⊎◌, List, [], ◌∷◌, ◌++◌, length, map, string_bytes, OnOk, IfOk, Some, Err};
 ghost use Rattle.band_base.specs.Device.{AppendsPrefix, Rose};
 ghost use Rattle.band_rules.specs.Script.{Good, Malformed, TooLong, verdict, calls_within, transcript};
 ghost use Rattle.band_play.specs.Play.{Gave, Comes, PlaysGiven, KeepsUp, Told, AskToPlay, AreOthers, IsStatus, end_of, program_limit};
@@ -34,6 +34,7 @@ pub fn play_script<S: Source, D: Sink, L: Ledger>(
         Gave (λ given. PlaysGiven limit given (D.written dst.old) (D.written dst.new))
         (S.left src.old) (S.left src.new) }
     ensures write { result ≡ Err PlayFault.Write → Rose (D.faults dst.old) (D.faults dst.new) }
+    ensures visits { IfOk result (λ lines. steps.new ≤ steps.old + 16 * lines) }
     // Whatever the answer is.
     ensures takes { Gave (λ given. length given ≤ limit + 1) (S.left src.old) (S.left src.new) }
     ensures front { Gave (λ given.
