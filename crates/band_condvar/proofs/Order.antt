@@ -1,12 +1,11 @@
 -- A poll that had the mutex, and gives it back to wait again, keeps the order of those that wait for it.
-use Rattle.std.proofs.Common.{◌≡◌, ℕ, ℤ, arith, sym, subst, pos, ◌+ℤ◌, ◌-ℤ◌, Option, Some, None, Bool, Result, Ok}
+use Rattle.std.proofs.Common.{◌≡◌, ℕ, ℤ, arith, sym, subst, pos, ◌+ℤ◌, ◌-ℤ◌, Option, Some, None, Bool, Ok}
 use Rattle.std.specs.Borrow.{MutBor}
 use Rattle.std.specs.Fn.{Mut}
 use Rattle.std.proofs.lemmas.Int.{ints}
 use Rattle.band_balance.specs.Line.{Entry, Line, AreAlike, entry_named, poll_granted, take_permits, give_back, settle, withdraw}
 use Rattle.band_base.specs.declared.poll.Poll.{Poll}
 use Rattle.band_base.specs.declared.poll.Poll.TheVariants.{Ready, Pending}
-use Rattle.band_base.specs.declared.poll.PollError.{PollError}
 use Rattle.band_base.specs.declared.waker.Waker.{Waker}
 use Rattle.band_sem.specs.Laws.{KeepsOrder}
 use Rattle.band_sem.specs.Permit.{Permit}
