@@ -49,7 +49,8 @@ gives_back (Reacquiring baton slot) of waker old guard between had mutex (there,
 gives_back Finished of waker old guard between had mutex (is, ends, same) like = absurd (cc)
 
 -- one that has the guard asks its condition: it has the mutex still, or gives it back
-pub asked-order : {F T : Type 0} (g : Mut F (MutBor T × Unit {0}) (Bool × (MutBor T × Unit {0}))) (stage : Stage) (of : ℕ) (waker : Waker) (old : Monitor) (guard given : Permit) (between : Stage) (had : Monitor)
+pub asked-order : {F T : Type 0} (g : Mut F (MutBor T × Unit {0}) (Bool × (MutBor T × Unit {0})))
+    (stage : Stage) (of : ℕ) (waker : Waker) (old : Monitor) (guard given : Permit) (between : Stage) (had : Monitor)
     (answer : Poll Permit) (before after : Test F T) (next : Stage) (new : Monitor) → Acquires stage of waker old (Ok (Ready guard)) between had → KeepsOrder old.mutex.line had.mutex.line
     → Asks g given waker before had (Ok answer) after next new → KeepsOrder old.mutex.line new.mutex.line
 asked-order g stage of waker old guard given between had (Ready kept) before after next new has order (answers, gives, ends, (room, mutex)) =
