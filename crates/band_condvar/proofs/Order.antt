@@ -1,12 +1,11 @@
 -- A poll that had the mutex, and gives it back to wait again, keeps the order of those that wait for it.
-use Rattle.std.proofs.Common.{◌≡◌, ℕ, ℤ, arith, sym, subst, pos, ◌+ℤ◌, ◌-ℤ◌, Option, Some, None, Bool, Result, Ok}
+use Rattle.std.proofs.Common.{◌≡◌, ℕ, ℤ, arith, sym, subst, pos, ◌+ℤ◌, ◌-ℤ◌, Option, Some, None, Bool, Ok}
 use Rattle.std.specs.Borrow.{MutBor}
 use Rattle.std.specs.Fn.{Mut}
 use Rattle.std.proofs.lemmas.Int.{ints}
 use Rattle.band_balance.specs.Line.{Entry, Line, AreAlike, entry_named, poll_granted, take_permits, give_back, settle, withdraw}
 use Rattle.band_base.specs.declared.poll.Poll.{Poll}
 use Rattle.band_base.specs.declared.poll.Poll.TheVariants.{Ready, Pending}
-use Rattle.band_base.specs.declared.poll.PollError.{PollError}
 use Rattle.band_base.specs.declared.waker.Waker.{Waker}
 use Rattle.band_sem.specs.Laws.{KeepsOrder}
 use Rattle.band_sem.specs.Permit.{Permit}
@@ -50,7 +49,8 @@ gives_back (Reacquiring baton slot) of waker old guard between had mutex (there,
 gives_back Finished of waker old guard between had mutex (is, ends, same) like = absurd (cc)
 
 -- one that has the guard asks its condition: it has the mutex still, or gives it back
-pub asked-order : {F T : Type 0} (g : Mut F (MutBor T × Unit {0}) (Bool × (MutBor T × Unit {0}))) (stage : Stage) (of : ℕ) (waker : Waker) (old : Monitor) (guard given : Permit) (between : Stage) (had : Monitor)
+pub asked-order : {F T : Type 0} (g : Mut F (MutBor T × Unit {0}) (Bool × (MutBor T × Unit {0})))
+    (stage : Stage) (of : ℕ) (waker : Waker) (old : Monitor) (guard given : Permit) (between : Stage) (had : Monitor)
     (answer : Poll Permit) (before after : Test F T) (next : Stage) (new : Monitor) → Acquires stage of waker old (Ok (Ready guard)) between had → KeepsOrder old.mutex.line had.mutex.line
     → Asks g given waker before had (Ok answer) after next new → KeepsOrder old.mutex.line new.mutex.line
 asked-order g stage of waker old guard given between had (Ready kept) before after next new has order (answers, gives, ends, (room, mutex)) =

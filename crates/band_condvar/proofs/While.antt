@@ -302,9 +302,8 @@ module _ {F T : Type 0} (g : Mut F (MutBor T × Unit {0}) (Bool × (MutBor T × 
           let kept = acquires-keep wait.stage wait.of waker old (Ready guard) Finished held has in
           let count = ap (λ (c : CondvarState). chosen_count c) joined ∙ joins waker new.condvar.line.nodes.spare held.condvar vacant in
           ap (λ s. batons s new.condvar + ended_while (Ok Pending) (has_baton wait.stage old.condvar) s) ends ∙ omega (arith, kept, count)
-      by_may true is (Err errors.NoMemory) (same, ends, room) =
-          let count = counts old room in
-          ap (λ s. batons s new.condvar + 0) ends ∙ omega (arith, count)
+      by_may true is (Err errors.NoMemory) (same, ends, left) =
+          ap (λ s. batons s new.condvar + 0) ends ∙ ap (λ (m : Monitor). batons wait.stage m.condvar + 0) left ∙ omega arith
       by_may true is (Err error) polls = absurd polls
       by_may false is (Ok (Ready guard)) (polls, same) = poll-keeps wait.stage wait.of waker old (Ok (Ready guard)) next.stage new polls
       by_may false is (Ok Pending) (polls, same) =

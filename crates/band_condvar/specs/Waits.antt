@@ -304,7 +304,7 @@ module _ {F T : Type 0} (g : Mut F (MutBor T × Unit {0}) (Bool × (MutBor T × 
       × Acquires stage of waker old (Ok (Ready guard)) Finished held
       × Asks guard waker before held (Ok Pending) after next new)
   MayAsk stage of waker before old (Err errors.NoMemory) after next new =
-      (after ≡ before) × (next ≡ stage) × IsRoomier old new
+      (after ≡ before) × (next ≡ stage) × (new ≡ old)
   MayAsk stage of waker before old (Err error) after next new = ⊥
 
   -- by whether it may: each other is polled as a wait, which asks for no room but in the mutex's line
