@@ -3,6 +3,8 @@ use Rattle.std.specs.Prelude.{◌≡◌, Option, Some, ⊤}
 use Rattle.std.specs.Borrow.{LendsIf, follows_so, Fml, RattleType, MutBor}
 use mathlib.Core.Option.{none}
 use Rattle.band_once.specs.contracts.value_cell.ValueCell.{the_row as cell_row}
+use Rattle.band_once.specs.contracts.once_cell.OnceCell.{the_row as once_cell_row}
+use Rattle.band_once.specs.Cell.{CellState}
 
 module _ (T : RattleType) where
   -- the cell has the last value that was written through the reference, or none as before
@@ -13,3 +15,8 @@ module _ (T : RattleType) where
   abbrev pub rests_with : MutBor (Option T.Denot) → T.Denot → Fml
   rests_with cell value =
       follows_so (cell_row T) (cell_row T) cell.ghost_name none (λ _ _. ⊤) (λ new. new ≡ Some value)
+
+  -- the same of a cell with a permit
+  abbrev pub lends_cell : MutBor (CellState T.Denot) → Option (MutBor T.Denot) → Fml
+  lends_cell cell value =
+      LendsIf (once_cell_row T) T cell value (λ last. record cell.now { value = Some last }) cell.now

@@ -1,3 +1,5 @@
 pub mod Calls
+pub mod Cell
 pub mod CellLends
+pub mod Idle
 pub mod Once

@@ -2,8 +2,16 @@
 #![tactic(auto)]
 
 mod call;
+mod cell_init;
+mod cell_insert;
+mod cell_mut;
 mod once;
+mod once_cell;
 mod value_cell;
 
+pub use cell_init::{CellInit, CellTryInit};
+pub use cell_insert::CellInsert;
+pub use cell_mut::{CellInitMut, CellTryInitMut};
 pub use once::{Once, OnceCall, OnceWait};
+pub use once_cell::OnceCell;
 pub use value_cell::ValueCell;

@@ -1,5 +1,5 @@
 //! A place for one value.
-ghost use Rattle.std.specs.Prelude.{◌≡◌, ◌↔◌, Some, None, IsTrue, IsSome, option_copied};
+ghost use Rattle.std.specs.Prelude.{◌≡◌, Some, None, is_some, option_copied};
 ghost use Rattle.std.specs.Option.{option_copied_mut};
 ghost use Rattle.std.specs.Borrow.{sem};
 
@@ -39,7 +39,7 @@ impl<T> ValueCell<T> {
 
     /// Whether it has a value.
     pub fn is_initialized(&self) -> bool
-        ensures { IsTrue result ↔ IsSome self.now }
+        ensures { result ≡ is_some self.now }
     {
         self.value.is_some()
     }
