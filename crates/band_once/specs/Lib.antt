@@ -2,4 +2,5 @@ pub mod Calls
 pub mod Cell
 pub mod CellLends
 pub mod Idle
+pub mod Lazy
 pub mod Once
