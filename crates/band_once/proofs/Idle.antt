@@ -1,10 +1,10 @@
 -- A permit of which one is available is idle, and no other is.
-use Rattle.std.proofs.Common.{◌≡◌, ℕ, ◌+◌, ◌&&◌, [], ◌∷◌, ◌++◌, List, map, Bool, true, false, cond, ℤ, pos, ◌+ℤ◌, refl, sym, ap, ◌∙◌, subst, arith, nat_eq, int_lt, unsigned_abs}
+use Rattle.std.proofs.Common.{◌≡◌, ℕ, ◌+◌, ◌&&◌, [], ◌∷◌, List, map, true, cond, ℤ, pos, ◌+ℤ◌, refl, arith, nat_eq, int_lt, unsigned_abs}
 use Rattle.std.specs.List.{AllByRecursion}
 use Rattle.std.specs.Prelude.{◌<◌}
 use Rattle.std.proofs.lemmas.Int.{ints}
 use Rattle.std.proofs.lemmas.Bool.Decides.{nat_tests}
-use Rattle.band_balance.specs.Line.{Entry, Waiting, Line, available, nobody_waits, total, entry_of}
+use Rattle.band_balance.specs.Line.{Entry, Waiting, available, nobody_waits, total, entry_of}
 use Rattle.band_balance.proofs.Settle.{total-cons}
 use Rattle.band_balance.proofs.Rename.{all_of_first}
 use Rattle.band_sem.specs.Semaphore.{SemaphoreState}

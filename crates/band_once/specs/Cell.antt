@@ -1,7 +1,7 @@
 -- A cell: a value or none, and the permit of its calls.
-use Rattle.std.specs.Prelude.{◌≡◌, ℕ, [], pos, MatchBool, Option, Some, None, is_some, Result, Ok, Err}
+use Rattle.std.specs.Prelude.{◌≡◌, ℕ, MatchBool, Option, Some, None, is_some, Result, Ok, Err}
 use Rattle.band_base.specs.declared.poll.Poll.{Poll}
-use Rattle.band_base.specs.declared.poll.Poll.TheVariants.{Ready, Pending}
+use Rattle.band_base.specs.declared.poll.Poll.TheVariants.{Ready}
 use Rattle.band_base.specs.declared.poll.PollError.{PollError}
 use Rattle.band_base.specs.declared.poll.PollError.TheVariants as errors
 use Rattle.band_sem.specs.Permit.{Permit}

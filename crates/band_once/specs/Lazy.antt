@@ -28,10 +28,10 @@ MayStart pre (NotMade make) = pre make
 MayStart pre (Running init) = Unit {0}
 MayStart pre Done = Unit {0}
 
--- the attempt is done exactly where the value is there
+-- where no value is there the attempt isn't done
 abbrev pub IsSound : {T P F : Type 0} → Option T → Attempt F P → Type 0
 IsSound None attempt = attempt ≢ Done
-IsSound (Some value) attempt = attempt ≡ Done
+IsSound (Some value) attempt = Unit {0}
 
 -- the state that is polled: the one that is stored, or, where none was made, one that is made now
 abbrev pub Starts : {P F : Type 0} → (F → P → Type 0) → Attempt F P → P → Type 0

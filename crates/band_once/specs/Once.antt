@@ -1,7 +1,7 @@
 -- A once: a countdown of 1 whose waits wait for its completion, and the permit of its calls.
-use Rattle.std.specs.Prelude.{◌≡◌, ℕ, List, [], ◌∷◌, Bool, MatchBool, Option, Result, Ok, Err}
+use Rattle.std.specs.Prelude.{◌≡◌, ℕ, List, [], ◌∷◌, Bool, MatchBool, Option, Result, Ok}
 use Rattle.band_base.specs.declared.poll.Poll.{Poll}
-use Rattle.band_base.specs.declared.poll.Poll.TheVariants.{Ready, Pending}
+use Rattle.band_base.specs.declared.poll.Poll.TheVariants.{Ready}
 use Rattle.band_base.specs.declared.poll.PollError.{PollError}
 use Rattle.band_base.specs.declared.waker.Waker.{Waker}
 use Rattle.band_sem.specs.Permit.{Permit}

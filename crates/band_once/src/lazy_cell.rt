@@ -70,6 +70,8 @@ impl Model for ForceMut {
 }
 
 impl<T, P: Polled<Output = T>, F: FnOnce() -> P> LazyCell<T, P, F> {
+    ghost use Rattle.band_once.specs.CellLends.{lends_lazy};
+
     /// A cell whose attempt is made by `init`, which calls know by `number`.
     pub fn new(alloc: Global, number: u64, init: F) -> LazyCell<T, P, F>
         ensures start { result ≡ new_lazy None (attempt.NotMade init) number }
@@ -111,6 +113,14 @@ impl<T, P: Polled<Output = T>, F: FnOnce() -> P> LazyCell<T, P, F> {
         ensures { option_copied result ≡ self.now.value }
     {
         self.value.get()
+    }
+
+    /// The value for writing.
+    pub fn get_mut(&mut self) -> Option<&mut T>
+        ensures* writes_back { sem 𝓛 (lends_lazy T.row P.row F.row self.entry result) }
+        ensures value { option_copied_mut result ≡ self.old.value }
+    {
+        self.value.get_mut()
     }
 
     /// Whether no call waits for the permit, was granted it or holds it.

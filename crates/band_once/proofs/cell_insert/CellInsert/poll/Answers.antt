@@ -1,4 +1,3 @@
-use Rattle.std.proofs.Common.{rules}
 use Rattle.band_once.proofs.cell_insert.CellInsert.poll.Goals.{in-Ok-NotNeeded, in-Ok-Waits, in-Ok-Holds, in-Err}
 use Rattle.band_once.proofs.cell_insert.CellInsert.poll.Goals as goal
 

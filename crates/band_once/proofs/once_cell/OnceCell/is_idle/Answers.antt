@@ -1,4 +1,4 @@
-use Rattle.std.proofs.Common.{◌≡◌, rules}
+use Rattle.std.proofs.Common.{rules}
 use Rattle.band_once.proofs.Idle.{idle, one_if_idle}
 use Rattle.band_once.proofs.once_cell.OnceCell.is_idle.Goals as goal
 
