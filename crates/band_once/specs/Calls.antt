@@ -1,5 +1,5 @@
 -- A call of a cell: it asks for the cell's one permit, and polls the caller's state while it holds it.
-use Rattle.std.specs.Prelude.{◌≡◌, ◌≢◌, ℕ, ◌≤◌, Bool, true, false, Option, Some, None, Result, Ok, Err}
+use Rattle.std.specs.Prelude.{◌≡◌, ◌≢◌, ℕ, Bool, true, false, Option, Some, None, Result, Ok, Err}
 use Rattle.band_base.specs.declared.poll.Poll.{Poll}
 use Rattle.band_base.specs.declared.poll.Poll.TheVariants.{Ready, Pending}
 use Rattle.band_base.specs.declared.poll.PollError.{PollError}
@@ -7,19 +7,11 @@ use Rattle.band_base.specs.declared.poll.PollError.TheVariants as errors
 use Rattle.band_sem.specs.Permit.{Permit}
 use Rattle.band_sem.specs.Request.{Request, new_request}
 use Rattle.band_sem.specs.Request as stages
-use Rattle.band_sem.specs.Semaphore.{SemaphoreState, IsLike, IsOwn, Polls, cancelled, given_back}
+use Rattle.band_sem.specs.Semaphore.{SemaphoreState, IsLike, Polls, cancelled, given_back}
 use Rattle.band_once.specs.declared.call.CallStage.{CallStage}
 use Rattle.band_once.specs.declared.call.CallStage.TheVariants.{NotPolled, Waiting, Driving, Finished}
 use Rattle.band_once.specs.declared.call.Asked.{Asked}
 use Rattle.band_once.specs.declared.call.Asked.TheVariants.{NotNeeded, Waits, Holds}
-
--- the cell's permit counts the request or the token that the call has
-abbrev pub IsCounted : {P : Type 0} → CallStage P → SemaphoreState → Type 0
-IsCounted (NotPolled init) permit = Unit {0}
-IsCounted (Waiting request init) permit =
-    (request.of ≡ permit.number) × IsOwn request.stage request.size permit.line
-IsCounted (Driving token init) permit = (token.of ≡ permit.number) × (token.count ≤ permit.held)
-IsCounted Finished permit = Unit {0}
 
 -- what always holds of a call: its request is for one permit and goes on, and its token stands for one
 abbrev pub IsForOne : {P : Type 0} → CallStage P → Type 0

@@ -1,9 +1,10 @@
 //! What the calls of all cells share: a call asks for the permit, and ends.
 ghost use Rattle.std.specs.Prelude.{◌≡◌, ◌≢◌};
 ghost use Rattle.band_sem.specs.Request as stages;
-ghost use Rattle.band_sem.specs.Semaphore.{IsOwn};
+ghost use Rattle.band_sem.specs.Semaphore.{IsLike, given_back};
 ghost use Rattle.band_sem.specs.Whole.{IsWhole};
-ghost use Rattle.band_once.specs.Calls.{IsCounted, IsForOne, Asks, Requests, Leaves, init_of, told};
+ghost use Rattle.band_once.specs.Claims.{Nothing, Awaits, Has, IsCounted, KeepsCounted, claim_of, claim_after};
+ghost use Rattle.band_once.specs.Calls.{IsForOne, Asks, Requests, Leaves, init_of, told};
 
 use band_base::{Poll, PollError, Polled, Steps, Waker};
 use band_sem::{Acquire, Semaphore, SemaphorePermit};
@@ -42,6 +43,18 @@ pub(crate) fn tell(error: PollError) -> PollError
     }
 }
 
+/// Gives the token back, and the permit passes on.
+pub(crate) fn pass<L: Ledger>(permit: &mut Semaphore, token: SemaphorePermit, steps: &mut Steps<L>)
+    requires counted { IsCounted (Has token) permit.old }
+    requires one { token.count ≡ 1 }
+    requires whole { IsWhole 1 permit.old }
+    ensures back { IsLike (given_back 1 permit.old) permit.new }
+    ensures counted { KeepsCounted (Has token) Nothing permit.old permit.new }
+    ensures whole { IsWhole 1 permit.new }
+{
+    permit.drop_permit(token, steps);
+}
+
 impl<P> CallStage<P> {
     /// Takes the stage out.
     fn take(&mut self) -> CallStage<P>
@@ -70,10 +83,11 @@ impl<P> CallStage<P> {
         waker: Waker,
         steps: &mut Steps<L>,
     ) -> Result<Asked<P>, PollError>
-        requires counted { IsCounted self.old permit.old }
+        requires counted { IsCounted (claim_of self.old) permit.old }
         requires one { IsForOne self.old }
         requires whole { IsWhole 1 permit.old }
         ensures asks { Asks is_there waker.0 self.old permit.old result self.new permit.new }
+        ensures counted { KeepsCounted (claim_of self.old) (claim_after result self.new) permit.old permit.new }
         ensures one { IsForOne self.new }
         ensures whole { IsWhole 1 permit.new }
     {
@@ -102,12 +116,12 @@ impl<P> CallStage<P> {
         steps: &mut Steps<L>,
     ) -> Result<Asked<P>, PollError>
         requires taken { self.old ≡ CallStage.Finished }
-        requires number { request.of ≡ permit.old.number }
-        requires own { IsOwn request.stage request.size permit.old.line }
+        requires counted { IsCounted (Awaits request) permit.old }
         requires one { request.size ≡ 1 }
         requires whole { IsWhole 1 permit.old }
         requires unfinished { request.stage ≢ stages.Finished }
         ensures requests { Requests request init waker.0 permit.old result self.new permit.new }
+        ensures counted { KeepsCounted (Awaits request) (claim_after result self.new) permit.old permit.new }
         ensures one { IsForOne self.new }
         ensures whole { IsWhole 1 permit.new }
     {
@@ -130,11 +144,12 @@ impl<P> CallStage<P> {
 
     /// Ends the call: its request ends, or its token goes back. What it had from the caller is handed out.
     pub(crate) fn end<L: Ledger>(self, permit: &mut Semaphore, steps: &mut Steps<L>) -> Option<P>
-        requires counted { IsCounted self permit.old }
+        requires counted { IsCounted (claim_of self) permit.old }
         requires one { IsForOne self }
         requires whole { IsWhole 1 permit.old }
         ensures init { result ≡ init_of self }
         ensures leaves { Leaves self permit.old permit.new }
+        ensures counted { KeepsCounted (claim_of self) Nothing permit.old permit.new }
         ensures whole { IsWhole 1 permit.new }
     {
         match self {
@@ -144,7 +159,7 @@ impl<P> CallStage<P> {
                 Some(init)
             }
             CallStage::Driving(token, init) => {
-                permit.drop_permit(token, steps);
+                pass(permit, token, steps);
                 Some(init)
             }
             CallStage::Finished => None,

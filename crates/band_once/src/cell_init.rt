@@ -1,12 +1,13 @@
 //! The call of a once cell that makes its value while it holds the permit.
 ghost use Rattle.std.specs.Prelude.{◌≡◌, ◌≤◌, ◌↔◌, IsErrOf};
 ghost use Rattle.band_sem.specs.Whole.{IsWhole};
-ghost use Rattle.band_once.specs.Calls.{IsCounted, IsForOne, Leaves};
+ghost use Rattle.band_once.specs.Calls.{IsForOne, Leaves};
+ghost use Rattle.band_once.specs.Claims.{Nothing, Has, IsCounted, KeepsCounted, claim_of};
 ghost use Rattle.band_once.specs.Cell.{published, PollsCell, HoldsCell};
 ghost use Rattle.band_once.specs.declared.call.CallStage.TheVariants as stage;
 
 use crate::OnceCell;
-use crate::call::{Asked, CallStage, tell};
+use crate::call::{Asked, CallStage, pass, tell};
 use band_base::{Poll, PollError, Polled, Steps, Waker};
 use band_sem::SemaphorePermit;
 use std::marker::Model;
@@ -48,9 +49,10 @@ impl<P: Polled> CellInit<P> {
         waker: Waker,
         steps: &mut Steps<L>,
     ) -> Result<Poll<()>, PollError>
-        requires { IsCounted self.old cell.old.permit }
+        requires { IsCounted (claim_of self.old) cell.old.permit }
         ensures polls { PollsCell tt published P.moves waker.0 self.old cell.old result self.new cell.new }
         ensures finished { IsErrOf result PollError.Finished ↔ (self.old ≡ stage.Finished) }
+        ensures counted { KeepsCounted (claim_of self.old) (claim_of self.new) cell.old.permit cell.new.permit }
         ensures one { IsForOne self.old }
         ensures whole { IsWhole 1 cell.new.permit }
     {
@@ -76,22 +78,22 @@ impl<P: Polled> CellInit<P> {
         steps: &mut Steps<L>,
     ) -> Result<Poll<()>, PollError>
         requires taken { self.old ≡ stage.Finished }
-        requires number { token.of ≡ cell.old.permit.number }
-        requires held { token.count ≤ cell.old.permit.held }
+        requires counted { IsCounted (Has token) cell.old.permit }
         requires one { token.count ≡ 1 }
         ensures holds { HoldsCell tt published P.moves waker.0 token init cell.old result self.new cell.new }
+        ensures counted { KeepsCounted (Has token) (claim_of self.new) cell.old.permit cell.new.permit }
         ensures whole { IsWhole 1 cell.new.permit }
     {
         if cell.is_initialized() {
             init.cancel();
-            cell.permit.drop_permit(token, steps);
+            pass(&mut cell.permit, token, steps);
             return Ok(Poll::Ready(()));
         }
         match init.poll(waker) {
             Ok(Poll::Ready(value)) => {
                 init.cancel();
                 cell.value.put(value);
-                cell.permit.drop_permit(token, steps);
+                pass(&mut cell.permit, token, steps);
                 Ok(Poll::Ready(()))
             }
             Ok(Poll::Pending) => {
@@ -107,8 +109,9 @@ impl<P: Polled> CellInit<P> {
 
     /// Ends the call and the caller's state. A request leaves the line, and the permit passes on.
     pub fn cancel<L: Ledger>(self, cell: &mut OnceCell<P::Output>, steps: &mut Steps<L>)
-        requires { IsCounted self cell.old.permit }
+        requires { IsCounted (claim_of self) cell.old.permit }
         ensures permit { Leaves self cell.old.permit cell.new.permit }
+        ensures counted { KeepsCounted (claim_of self) Nothing cell.old.permit cell.new.permit }
         ensures value { cell.new.value ≡ cell.old.value }
         ensures one { IsForOne self }
         ensures whole { IsWhole 1 cell.new.permit }

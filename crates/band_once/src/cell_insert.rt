@@ -1,12 +1,13 @@
 //! The call of a once cell that puts a value in.
 ghost use Rattle.std.specs.Prelude.{◌≡◌, ◌≤◌, ◌↔◌, IsErrOf};
 ghost use Rattle.band_sem.specs.Whole.{IsWhole};
-ghost use Rattle.band_once.specs.Calls.{IsCounted, IsForOne, Leaves};
+ghost use Rattle.band_once.specs.Calls.{IsForOne, Leaves};
+ghost use Rattle.band_once.specs.Claims.{Nothing, Has, IsCounted, KeepsCounted, claim_of};
 ghost use Rattle.band_once.specs.Cell.{PollsInsert, HoldsInsert};
 ghost use Rattle.band_once.specs.declared.call.CallStage.TheVariants as stage;
 
 use crate::OnceCell;
-use crate::call::{Asked, CallStage};
+use crate::call::{Asked, CallStage, pass};
 use band_base::{Poll, PollError, Steps, Waker};
 use band_sem::SemaphorePermit;
 use std::marker::Model;
@@ -46,9 +47,10 @@ impl<T> CellInsert<T> {
         waker: Waker,
         steps: &mut Steps<L>,
     ) -> Result<Poll<Result<(), T>>, PollError>
-        requires { IsCounted self.old cell.old.permit }
+        requires { IsCounted (claim_of self.old) cell.old.permit }
         ensures polls { PollsInsert waker.0 self.old cell.old result self.new cell.new }
         ensures finished { IsErrOf result PollError.Finished ↔ (self.old ≡ stage.Finished) }
+        ensures counted { KeepsCounted (claim_of self.old) (claim_of self.new) cell.old.permit cell.new.permit }
         ensures one { IsForOne self.old }
         ensures whole { IsWhole 1 cell.new.permit }
     {
@@ -65,8 +67,9 @@ impl<T> CellInsert<T> {
 impl<T: Drop> CellInsert<T> {
     /// Ends the call and drops the value. A request leaves the line, and the permit passes on.
     pub fn cancel<L: Ledger>(self, cell: &mut OnceCell<T>, steps: &mut Steps<L>)
-        requires { IsCounted self cell.old.permit }
+        requires { IsCounted (claim_of self) cell.old.permit }
         ensures permit { Leaves self cell.old.permit cell.new.permit }
+        ensures counted { KeepsCounted (claim_of self) Nothing cell.old.permit cell.new.permit }
         ensures value { cell.new.value ≡ cell.old.value }
         ensures one { IsForOne self }
         ensures whole { IsWhole 1 cell.new.permit }
@@ -89,17 +92,17 @@ fn go_on<T, L: Ledger>(
     value: T,
     steps: &mut Steps<L>,
 ) -> Result<Poll<Result<(), T>>, PollError>
-    requires number { token.of ≡ cell.old.permit.number }
-    requires held { token.count ≤ cell.old.permit.held }
+    requires counted { IsCounted (Has token) cell.old.permit }
     requires one { token.count ≡ 1 }
     ensures holds { HoldsInsert token value cell.old result stage.Finished cell.new }
+    ensures counted { KeepsCounted (Has token) Nothing cell.old.permit cell.new.permit }
     ensures whole { IsWhole 1 cell.new.permit }
 {
     if cell.is_initialized() {
-        cell.permit.drop_permit(token, steps);
+        pass(&mut cell.permit, token, steps);
         return Ok(Poll::Ready(Err(value)));
     }
     cell.value.put(value);
-    cell.permit.drop_permit(token, steps);
+    pass(&mut cell.permit, token, steps);
     Ok(Poll::Ready(Ok(())))
 }

@@ -1,12 +1,13 @@
 //! The call of a once cell whose initializer may give an error.
 ghost use Rattle.std.specs.Prelude.{◌≡◌, ◌≤◌, ◌↔◌, Ok, IsErrOf};
 ghost use Rattle.band_sem.specs.Whole.{IsWhole};
-ghost use Rattle.band_once.specs.Calls.{IsCounted, IsForOne, Leaves};
+ghost use Rattle.band_once.specs.Calls.{IsForOne, Leaves};
+ghost use Rattle.band_once.specs.Claims.{Nothing, Has, IsCounted, KeepsCounted, claim_of};
 ghost use Rattle.band_once.specs.Cell.{attempted, PollsCell, HoldsCell};
 ghost use Rattle.band_once.specs.declared.call.CallStage.TheVariants as stage;
 
 use crate::OnceCell;
-use crate::call::{Asked, CallStage, tell};
+use crate::call::{Asked, CallStage, pass, tell};
 use band_base::{Poll, PollError, Polled, Steps, Waker};
 use band_sem::SemaphorePermit;
 use std::marker::Model;
@@ -49,9 +50,10 @@ impl<T, E, P: Polled<Output = Result<T, E>>> CellTryInit<P> {
         waker: Waker,
         steps: &mut Steps<L>,
     ) -> Result<Poll<Result<(), E>>, PollError>
-        requires { IsCounted self.old cell.old.permit }
+        requires { IsCounted (claim_of self.old) cell.old.permit }
         ensures polls { PollsCell (Ok tt) attempted P.moves waker.0 self.old cell.old result self.new cell.new }
         ensures finished { IsErrOf result PollError.Finished ↔ (self.old ≡ stage.Finished) }
+        ensures counted { KeepsCounted (claim_of self.old) (claim_of self.new) cell.old.permit cell.new.permit }
         ensures one { IsForOne self.old }
         ensures whole { IsWhole 1 cell.new.permit }
     {
@@ -77,22 +79,22 @@ impl<T, E, P: Polled<Output = Result<T, E>>> CellTryInit<P> {
         steps: &mut Steps<L>,
     ) -> Result<Poll<Result<(), E>>, PollError>
         requires taken { self.old ≡ stage.Finished }
-        requires number { token.of ≡ cell.old.permit.number }
-        requires held { token.count ≤ cell.old.permit.held }
+        requires counted { IsCounted (Has token) cell.old.permit }
         requires one { token.count ≡ 1 }
         ensures holds { HoldsCell (Ok tt) attempted P.moves waker.0 token init cell.old result self.new cell.new }
+        ensures counted { KeepsCounted (Has token) (claim_of self.new) cell.old.permit cell.new.permit }
         ensures whole { IsWhole 1 cell.new.permit }
     {
         if cell.is_initialized() {
             init.cancel();
-            cell.permit.drop_permit(token, steps);
+            pass(&mut cell.permit, token, steps);
             return Ok(Poll::Ready(Ok(())));
         }
         match init.poll(waker) {
             Ok(Poll::Ready(output)) => {
                 init.cancel();
                 let answer = cell.attempted(output);
-                cell.permit.drop_permit(token, steps);
+                pass(&mut cell.permit, token, steps);
                 Ok(Poll::Ready(answer))
             }
             Ok(Poll::Pending) => {
@@ -108,8 +110,9 @@ impl<T, E, P: Polled<Output = Result<T, E>>> CellTryInit<P> {
 
     /// Ends the call and the caller's state. A request leaves the line, and the permit passes on.
     pub fn cancel<L: Ledger>(self, cell: &mut OnceCell<T>, steps: &mut Steps<L>)
-        requires { IsCounted self cell.old.permit }
+        requires { IsCounted (claim_of self) cell.old.permit }
         ensures permit { Leaves self cell.old.permit cell.new.permit }
+        ensures counted { KeepsCounted (claim_of self) Nothing cell.old.permit cell.new.permit }
         ensures value { cell.new.value ≡ cell.old.value }
         ensures one { IsForOne self }
         ensures whole { IsWhole 1 cell.new.permit }

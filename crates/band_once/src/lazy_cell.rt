@@ -4,7 +4,8 @@ ghost use Rattle.std.specs.Option.{option_copied_mut};
 ghost use Rattle.std.specs.Borrow.{sem};
 ghost use Rattle.band_sem.specs.Semaphore.{TakesWake};
 ghost use Rattle.band_sem.specs.Whole.{IsWhole};
-ghost use Rattle.band_once.specs.Calls.{IsCounted, IsForOne, Leaves};
+ghost use Rattle.band_once.specs.Calls.{IsForOne, Leaves};
+ghost use Rattle.band_once.specs.Claims.{Nothing, Has, IsCounted, KeepsCounted, claim_of};
 ghost use Rattle.band_once.specs.Idle.{IsIdle};
 ghost use Rattle.band_once.specs.Lazy.{new_lazy, MayStart, Attempts, HoldsLazy, PollsLazy, PollsLazyMut};
 ghost use Rattle.band_once.specs.declared.attempt.Attempt.TheVariants as attempt;
@@ -12,7 +13,7 @@ ghost use Rattle.band_once.specs.declared.call.CallStage.TheVariants as stage;
 
 use crate::ValueCell;
 use crate::attempt::Attempt;
-use crate::call::{Asked, CallStage, tell};
+use crate::call::{Asked, CallStage, pass, tell};
 use band_base::{Poll, PollError, Polled, Steps, Waker};
 use band_sem::{Semaphore, SemaphorePermit};
 use std::alloc::Global;
@@ -195,19 +196,20 @@ impl Force {
         waker: Waker,
         steps: &mut Steps<L>,
     ) -> Result<Poll<()>, PollError>
-        requires counted { IsCounted self.old cell.old.permit }
+        requires counted { IsCounted (claim_of self.old) cell.old.permit }
         requires callable { MayStart F.pre cell.old.attempt }
         ensures polls { PollsLazy F.post P.moves waker.0 self.old cell.old result self.new cell.new }
         ensures finished { IsErrOf result PollError.Finished ↔ (self.old ≡ stage.Finished) }
+        ensures counted { KeepsCounted (claim_of self.old) (claim_of self.new) cell.old.permit cell.new.permit }
         ensures callable { MayStart F.pre cell.new.attempt }
         ensures one { IsForOne self.old }
         ensures whole { IsWhole 1 cell.new.permit }
     {
         let is_there = cell.is_initialized();
         match self.stage.ask(is_there, &mut cell.permit, waker, steps) {
-            Ok(Asked::NotNeeded(())) => Ok(Poll::Ready(())),
+            Ok(Asked::NotNeeded(_)) => Ok(Poll::Ready(())),
             Ok(Asked::Waits) => Ok(Poll::Pending),
-            Ok(Asked::Holds(token, ())) => self.go_on(cell, token, waker, steps),
+            Ok(Asked::Holds(token, _)) => self.go_on(cell, token, waker, steps),
             Err(error) => Err(error),
         }
     }
@@ -222,20 +224,20 @@ impl Force {
     ) -> Result<Poll<()>, PollError>
         requires callable { MayStart F.pre cell.old.attempt }
         requires taken { self.old ≡ stage.Finished }
-        requires number { token.of ≡ cell.old.permit.number }
-        requires held { token.count ≤ cell.old.permit.held }
+        requires counted { IsCounted (Has token) cell.old.permit }
         requires one { token.count ≡ 1 }
         ensures holds { HoldsLazy F.post P.moves waker.0 token tt cell.old result self.new cell.new }
+        ensures counted { KeepsCounted (Has token) (claim_of self.new) cell.old.permit cell.new.permit }
         ensures callable { MayStart F.pre cell.new.attempt }
         ensures whole { IsWhole 1 cell.new.permit }
     {
         if cell.is_initialized() {
-            cell.permit.drop_permit(token, steps);
+            pass(&mut cell.permit, token, steps);
             return Ok(Poll::Ready(()));
         }
         match cell.attempt(waker) {
             Ok(Poll::Ready(())) => {
-                cell.permit.drop_permit(token, steps);
+                pass(&mut cell.permit, token, steps);
                 Ok(Poll::Ready(()))
             }
             Ok(Poll::Pending) => {
@@ -255,8 +257,9 @@ impl Force {
         cell: &mut LazyCell<T, P, F>,
         steps: &mut Steps<L>,
     )
-        requires { IsCounted self cell.old.permit }
+        requires { IsCounted (claim_of self) cell.old.permit }
         ensures permit { Leaves self cell.old.permit cell.new.permit }
+        ensures counted { KeepsCounted (claim_of self) Nothing cell.old.permit cell.new.permit }
         ensures state { cell.new ≡ record cell.old { permit = cell.new.permit } }
         ensures one { IsForOne self }
         ensures whole { IsWhole 1 cell.new.permit }

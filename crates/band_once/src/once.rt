@@ -2,11 +2,12 @@
 ghost use Rattle.std.specs.Prelude.{◌≡◌, ◌≤◌, ◌+◌, ◌↔◌, IsErrOf};
 ghost use Rattle.band_sem.specs.Whole.{IsWhole};
 ghost use Rattle.band_signal.specs.Waits as waits;
-ghost use Rattle.band_once.specs.Calls.{IsCounted, IsForOne, Leaves};
+ghost use Rattle.band_once.specs.Calls.{IsForOne, Leaves};
+ghost use Rattle.band_once.specs.Claims.{Nothing, Has, IsCounted, KeepsCounted, claim_of};
 ghost use Rattle.band_once.specs.Once.{OnceState, new_once, is_completed, PollsOnce, HoldsOnce, Completes, TakesFirstWake};
 ghost use Rattle.band_once.specs.declared.call.CallStage.TheVariants as stage;
 
-use crate::call::{Asked, CallStage, tell};
+use crate::call::{Asked, CallStage, pass, tell};
 use band_base::{Poll, PollError, Polled, Steps, Waker};
 use band_sem::{Semaphore, SemaphorePermit};
 use band_signal::{Latch, LatchWait};
@@ -113,14 +114,14 @@ impl Once {
 
     /// It is done: wakes all that wait for that, and gives the permit back.
     fn complete<L: Ledger>(&mut self, token: SemaphorePermit, steps: &mut Steps<L>)
-        requires number { token.of ≡ self.old.permit.number }
-        requires held { token.count ≤ self.old.permit.held }
+        requires counted { IsCounted (Has token) self.old.permit }
         requires one { token.count ≡ 1 }
         ensures completes { Completes self.old self.new }
+        ensures counted { KeepsCounted (Has token) Nothing self.old.permit self.new.permit }
         ensures whole { IsWhole 1 self.new.permit }
     {
         self.done.count_down();
-        self.permit.drop_permit(token, steps);
+        pass(&mut self.permit, token, steps);
     }
 }
 
@@ -132,9 +133,10 @@ impl<P: Polled<Output = ()>> OnceCall<P> {
         waker: Waker,
         steps: &mut Steps<L>,
     ) -> Result<Poll<()>, PollError>
-        requires { IsCounted self.old once.old.permit }
+        requires { IsCounted (claim_of self.old) once.old.permit }
         ensures polls { PollsOnce P.moves waker.0 self.old once.old result self.new once.new }
         ensures finished { IsErrOf result PollError.Finished ↔ (self.old ≡ stage.Finished) }
+        ensures counted { KeepsCounted (claim_of self.old) (claim_of self.new) once.old.permit once.new.permit }
         ensures one { IsForOne self.old }
         ensures whole { IsWhole 1 once.new.permit }
     {
@@ -160,15 +162,15 @@ impl<P: Polled<Output = ()>> OnceCall<P> {
         steps: &mut Steps<L>,
     ) -> Result<Poll<()>, PollError>
         requires taken { self.old ≡ stage.Finished }
-        requires number { token.of ≡ once.old.permit.number }
-        requires held { token.count ≤ once.old.permit.held }
+        requires counted { IsCounted (Has token) once.old.permit }
         requires one { token.count ≡ 1 }
         ensures holds { HoldsOnce P.moves waker.0 token init once.old result self.new once.new }
+        ensures counted { KeepsCounted (Has token) (claim_of self.new) once.old.permit once.new.permit }
         ensures whole { IsWhole 1 once.new.permit }
     {
         if once.is_completed() {
             init.cancel();
-            once.permit.drop_permit(token, steps);
+            pass(&mut once.permit, token, steps);
             return Ok(Poll::Ready(()));
         }
         match init.poll(waker) {
@@ -190,8 +192,9 @@ impl<P: Polled<Output = ()>> OnceCall<P> {
 
     /// Ends the call and the caller's state. A request leaves the line, and the permit passes on.
     pub fn cancel<L: Ledger>(self, once: &mut Once, steps: &mut Steps<L>)
-        requires { IsCounted self once.old.permit }
+        requires { IsCounted (claim_of self) once.old.permit }
         ensures permit { Leaves self once.old.permit once.new.permit }
+        ensures counted { KeepsCounted (claim_of self) Nothing once.old.permit once.new.permit }
         ensures done { once.new.done ≡ once.old.done }
         ensures one { IsForOne self }
         ensures whole { IsWhole 1 once.new.permit }
