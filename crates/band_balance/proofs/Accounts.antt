@@ -11,7 +11,7 @@ use Rattle.band_balance.specs.Rule.{has_name}
 use Rattle.band_balance.specs.Laws.{permits, HasAShare}
 use Rattle.band_balance.proofs.Held.{TellsApart, names_apart, total-push, total-change, other-change}
 use Rattle.band_balance.proofs.Settle.{total-without, free-total-settle, free-total-give_back, free-total-cancel}
-use Rattle.band_balance.proofs.Turns.{Becomes, stays, takes, joins, receives, rewakes, returns, ends, comes, goes, drains, forgets, splits, merges, lowers}
+use Rattle.band_balance.proofs.Turns.{Becomes, stays, takes, joins, receives, rewakes, returns, ends, comes, goes, drains, forgets, splits, merges, lowers, tells, closes, Effect}
 
 -- so much is free, granted and held before, and so much after: it adds up, and where something is owed afterwards, no more is than before
 pub record Moves {N : Type 0} (line line' : Line N) (held held' : ℕ) : Type 0 where
@@ -196,15 +196,17 @@ module _ {K : Type 0} (same : K → K → Bool) (told : TellsApart same) (object
   none_below (inl none) = inr (inl (omega (arith, ints)), omega arith)
   none_below (inr enough) = inl (omega (arith, ints))
 
-  pub accounts : {back : Option (Tag K → Bool)} {came gone : ℕ} {who : Option K} {line : Line (Tag K)} {held : List (Entry (Tag K))} → Becomes same object back came gone who line held
+  pub accounts : {back : Effect (Tag K)} {came gone : ℕ} {who : Option K} {line : Line (Tag K)} {held : List (Entry (Tag K))} {closed : Bool} {ended : List (Entry (Tag K))} → Becomes same object back came gone who line held closed ended
       → Accounts object came gone line held
   accounts stays = unmoved object object.line object.held refl refl refl
   accounts (takes made size served fits) =
       moved object _ _ (total object.held) (total object.held + size) refl (total-push object.held (record { name = made; size = size })) (moves_taken object.line (total object.held) size served)
-  accounts (joins made size waker waits fresh fits) = unmoved object _ _ refl refl refl
+  accounts (joins made size waker waits may) = unmoved object _ _ refl refl refl
   accounts (receives name entry there) =
       moved object _ _ (total object.held) (total object.held + entry.size) refl (total-push object.held entry) (moves_received object.line (total object.held) (has_name same name) entry there)
   accounts (rewakes name waker) = unmoved object _ _ refl refl refl
+  accounts (tells name) = unmoved object _ _ refl refl refl
+  accounts (closes permits) = unmoved object _ _ refl refl refl
   accounts (returns name entry there) =
       let left = total-without (has_name same name) object.held entry there in
       moved object _ _ (total (without (has_name same name) object.held) + entry.size) (total (without (has_name same name) object.held)) (omega arith) refl

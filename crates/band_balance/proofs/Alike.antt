@@ -1,46 +1,20 @@
 -- No rule looks at the order of those granted: of lines that are alike, a rule makes lines that are alike.
-use Rattle.std.proofs.Common.{◌≡◌, ℕ, zero, suc, ◌+◌, ◌-◌, nat_le, ◌≤◌, ◌<◌, Bool, true, false, cond, List, [], ◌∷◌, ◌++◌, map, length, set, get_or, Option, Some, None, refl, sym, ap, ◌∙◌, subst}
+use Rattle.std.proofs.Common.{◌≡◌, ℕ, ◌+◌, ◌-◌, nat_le, ◌≤◌, Bool, true, false, cond, List, [], ◌∷◌, ◌++◌, map, length, Option, Some, None, refl, sym, ap, ◌∙◌, subst}
 use Rattle.std.proofs.Common.{arith}
-use Rattle.std.specs.List.{AllByRecursion, swap}
+use Rattle.std.specs.List.{AllByRecursion}
 use Rattle.std.specs.List.Sorted.{IsPermutation}
-use Rattle.std.proofs.lemmas.List.Edits.{swap_is}
-use Rattle.std.proofs.lemmas.List.Sorted.{IsPermutation-refl, IsPermutation-keeps, IsPermutation-sym, IsPermutation-cons, IsPermutation-swap, IsPermutation-trans, IsPermutation-append_left}
+use Rattle.std.proofs.lemmas.List.Sorted.{IsPermutation-refl, IsPermutation-sym, IsPermutation-cons, IsPermutation-swap, IsPermutation-trans, IsPermutation-append_left}
 use Rattle.std.proofs.lemmas.List.Sorted.{IsPermutation-map, sum_by-IsPermutation}
 use Rattle.band_balance.specs.Line.{Entry, Waiting, Line, AreAlike, available, drained, is_served, entry_of, requests, total, settle, give_back, add_permits, take_permits, join, entry_named, without}
 use Rattle.band_balance.specs.Line.{poll_granted, poll_waiting, withdraw, cancel, rename, renamed}
-use Rattle.band_balance.specs.Object.{Object, Turn, Answer, Done, Ready, Pending, Nothing, Drained, Figures, Write, Tag, size_of, turn, hold, size_in}
-use Rattle.band_balance.proofs.Turns.{poll_of, drop_of}
-use Rattle.band_balance.specs.Rule.{Rule, Ask, Poll, Try, Drop, Release, Reduce, Drain, Forget, Split, Merge, Downgrade, Status, has_name, act}
+use Rattle.band_balance.specs.Object.{Object, Turn, Answer, Done, Ready, Pending, Nothing, Closed, Drained, Figures, Write, Tag, size_of, turn, hold, size_in}
+use Rattle.band_balance.proofs.AnyOrder.{of_any_order, pairwise_back, pairwise_front}
+use Rattle.band_balance.proofs.Turns.{poll_of, poll_ended, drop_of}
+use Rattle.band_balance.specs.Rule.{Rule, Ask, Poll, Try, Drop, Release, Reduce, Drain, Close, Forget, Split, Merge, Downgrade, Status, has_name, act}
 use Rattle.band_balance.specs.Laws.{Pairwise, IsOrderly, ObjectsAlike, TurnsAlike}
 use Rattle.band_balance.proofs.Held.{TellsApart}
-use Rattle.band_balance.proofs.Rename.{all_of_first}
 use Rattle.band_balance.proofs.Requests.{none-from_all, count_named, count_named-cons, count_named-none}
 use Rattle.band_balance.proofs.Settle.{settle_is, passed}
-
--- What holds of a list and itself, goes on where one comes before both, where two neighbours change places, and from one step to the
--- next, holds of a list and itself in any order.
-module _ {X : Type 0} (R : List X → List X → Type 0) (same : (xs : List X) → R xs xs) (comes : (x : X) (xs ys : List X) → R xs ys → R (x ∷ xs) (x ∷ ys))
-    (changes : (x y : X) (xs : List X) → R (x ∷ y ∷ xs) (y ∷ x ∷ xs)) (goes_on : (xs ys zs : List X) → R xs ys → R ys zs → R xs zs) where
-  first_changes : (x : X) (xs : List X) (j : ℕ) (d : X) → j < length xs → R (x ∷ xs) (get_or xs j d ∷ set xs j x)
-  first_changes x [] j d below = absurd (omega (arith, below))
-  first_changes x (y ∷ xs) zero d below = changes x y xs
-  first_changes x (y ∷ xs) (suc j) d below =
-      goes_on _ _ _ (changes x y xs)
-      (goes_on _ _ _ (comes y _ _ (first_changes x xs j d (omega (arith, below)))) (changes y (get_or xs j d) (set xs j x)))
-
-  two_change : (xs : List X) (i j : ℕ) (d : X) → i < length xs → j < length xs → R xs (set (set xs i (get_or xs j d)) j (get_or xs i d))
-  two_change [] i j d one other = absurd (omega (arith, one))
-  two_change (x ∷ xs) zero zero d one other = same (x ∷ xs)
-  two_change (x ∷ xs) zero (suc j) d one other = first_changes x xs j d (omega (arith, other))
-  two_change (x ∷ xs) (suc i) zero d one other = first_changes x xs i d (omega (arith, one))
-  two_change (x ∷ xs) (suc i) (suc j) d one other = comes x _ _ (two_change xs i j d (omega (arith, one)) (omega (arith, other)))
-
-  pub of_any_order : (xs ys : List X) → IsPermutation xs ys → R xs ys
-  of_any_order xs ys any = IsPermutation-keeps xs (R xs) (same xs) (λ l i j one other reached. goes_on xs l _ reached (moved l i j one other)) ys any
-    where
-      moved : (l : List X) (i j : ℕ) → i < length l → j < length l → R l (swap l i j)
-      moved [] i j one other = absurd (omega (arith, one))
-      moved (d ∷ l) i j one other = subst (R (d ∷ l)) (swap_is (d ∷ l) i j d one other) (two_change (d ∷ l) i j d one other)
 
 -- Who is found and who is left, where one entry at most is meant.
 module _ {N : Type 0} (is : N → Bool) where
@@ -203,30 +177,6 @@ rename-alike f one other h = record {
   wakes = h.wakes;
 }
 
--- what holds pairwise, whichever comes first, holds so in any order
-pub pairwise-order : {X : Type 0} (R : X → X → Type 0) → ((x y : X) → R x y → R y x) → (xs ys : List X) → IsPermutation xs ys → Pairwise R xs → Pairwise R ys
-pairwise-order {X} R turns xs ys any = (of_any_order Kept itself one_before neighbours then_kept xs ys any).1
-  where
-    Kept : List X → List X → Type 0
-    Kept one other = ((x : X) → AllByRecursion (R x) one → AllByRecursion (R x) other) × (Pairwise R one → Pairwise R other)
-
-    itself : (one : List X) → Kept one one
-    itself one = ((λ x each. each), (λ each. each))
-
-    one_before : (x : X) (one other : List X) → Kept one other → Kept (x ∷ one) (x ∷ other)
-    one_before x one other kept = ((λ y each. (each.0, kept.0 y each.1)), (λ each. (kept.0 x each.0, kept.1 each.1)))
-
-    neighbours : (x y : X) (one : List X) → Kept (x ∷ y ∷ one) (y ∷ x ∷ one)
-    neighbours x y one = ((λ z each. (each.1.0, (each.0, each.1.1))), (λ each. ((turns x y each.0.0, each.1.0), (each.0.1, each.1.1))))
-
-    then_kept : (one mid other : List X) → Kept one mid → Kept mid other → Kept one other
-    then_kept one mid other first second = ((λ x each. second.0 x (first.0 x each)), (λ each. second.1 (first.1 each)))
-
--- of a list in which it holds pairwise, it holds so of a front
-pub pairwise_front : {X : Type 0} (R : X → X → Type 0) (xs ys : List X) → Pairwise R (xs ++ ys) → Pairwise R xs
-pairwise_front R [] ys each = tt
-pairwise_front R (x ∷ xs) ys each = (all_of_first (R x) xs ys each.0, pairwise_front R xs ys each.1)
-
 module _ {K : Type 0} (same : K → K → Bool) (told : TellsApart same) where
   -- a name stands once at most where all names differ
   pub named_once : (name : K) (es : List (Entry (Tag K))) → Pairwise (λ (a b : Entry (Tag K)). same a.name.name b.name.name ≡ false) es → count_named (has_name same name) es ≤ 1
@@ -256,18 +206,24 @@ module _ {K : Type 0} (same : K → K → Bool) (told : TellsApart same) where
     alike = reordered object.line granted any
 
     once : (name : K) → count_named (has_name same name) object.line.granted ≤ 1
-    once name = named_once name object.line.granted (pairwise_front _ object.line.granted (map entry_of object.line.waiting) orderly.once)
+    once name =
+        named_once name object.line.granted
+        (pairwise_front _ object.line.granted (map entry_of object.line.waiting) (pairwise_back _ object.ended (requests object.line) orderly.once))
 
     found : (name : K) → entry_named (has_name same name) granted ≡ entry_named (has_name same name) object.line.granted
     found name = granted-alike (has_name same name) object.line (with_granted object.line granted) alike (once name)
 
-    turned : (answer : Answer) (one other : Line (Tag K)) (held : List (Entry (Tag K))) → AreAlike one other
-        → TurnsAlike (turn answer (record object { line = one; held = held })) (turn answer (record object { line = other; held = held }))
-    turned answer one other held h = record {
+    shut : (answer : Answer) (one other : Line (Tag K)) (held : List (Entry (Tag K))) (closed : Bool) (gone other_gone : List (Entry (Tag K))) → AreAlike one other → other_gone ≡ gone
+        → TurnsAlike (turn answer (record object { line = one; held = held; closed = closed; ended = gone })) (turn answer (record object { line = other; held = held; closed = closed; ended = other_gone }))
+    shut answer one other held closed gone other_gone h same_gone = record {
       answer = refl;
       woken = h.wakes;
-      object = record { kind = refl; line = record { free = h.free; waiting = h.waiting; granted = h.granted; wakes = refl }; held = refl };
+      object = record { kind = refl; line = record { free = h.free; waiting = h.waiting; granted = h.granted; wakes = refl }; held = refl; closed = refl; ended = same_gone };
     }
+
+    turned : (answer : Answer) (one other : Line (Tag K)) (held : List (Entry (Tag K))) → AreAlike one other
+        → TurnsAlike (turn answer (record object { line = one; held = held })) (turn answer (record object { line = other; held = held }))
+    turned answer one other held h = shut answer one other held object.closed object.ended object.ended h refl
 
     either : (b : Bool) {one one' other other' : Turn (Tag K)} → TurnsAlike one one' → TurnsAlike other other' → TurnsAlike (cond b one other) (cond b one' other')
     either true first second = first
@@ -279,20 +235,26 @@ module _ {K : Type 0} (same : K → K → Bool) (told : TellsApart same) where
 
     dropped : (name : K) (it : Option (Entry (Tag K))) → TurnsAlike (drop_of it (has_name same name) object) (drop_of it (has_name same name) Shuffled)
     dropped name (Some entry) = turned Done _ _ (without (has_name same name) object.held) (give_back-alike entry.size _ _ alike)
-    dropped name None = turned Done _ _ object.held (cancel-alike (has_name same name) _ _ alike (once name))
+    dropped name None = shut Done _ _ object.held object.closed (without (has_name same name) object.ended) (without (has_name same name) object.ended) (cancel-alike (has_name same name) _ _ alike (once name)) refl
+
+    told_of : (name : K) (waker : ℕ) (gone : Option (Entry (Tag K))) → TurnsAlike (poll_ended gone (has_name same name) waker object) (poll_ended gone (has_name same name) waker Shuffled)
+    told_of name waker (Some entry) = shut Closed _ _ object.held object.closed (without (has_name same name) object.ended) (without (has_name same name) object.ended) alike refl
+    told_of name waker None =
+        subst (λ (it : Option (Entry (Tag K))). TurnsAlike (poll_of (entry_named (has_name same name) object.line.granted) (has_name same name) waker object) (poll_of it (has_name same name) waker Shuffled))
+        (sym (found name)) (polled name waker (entry_named (has_name same name) object.line.granted))
 
     act-shuffled : (rule : Rule K) → TurnsAlike (act same rule object) (act same rule Shuffled)
     act-shuffled (Ask made size waker) =
         either (is_served size object.line) (turned Ready _ _ (hold made size object.held) (take_permits-alike size _ _ alike)) (turned Pending _ _ object.held (join-alike made size waker _ _ alike))
-    act-shuffled (Poll name waker) =
-        subst (λ (it : Option (Entry (Tag K))). TurnsAlike (act same (Poll name waker) object) (poll_of it (has_name same name) waker Shuffled)) (sym (found name))
-        (polled name waker (entry_named (has_name same name) object.line.granted))
+    act-shuffled (Poll name waker) = told_of name waker (entry_named (has_name same name) object.ended)
     act-shuffled (Try made size) =
         either (is_served size object.line) (turned Done _ _ (hold made size object.held) (take_permits-alike size _ _ alike)) (turned Nothing _ _ object.held alike)
     act-shuffled (Drop name) = dropped name (entry_named (has_name same name) object.held)
     act-shuffled (Release n) = turned Done _ _ object.held (give_back-alike n _ _ alike)
     act-shuffled (Reduce n) = turned Done _ _ object.held (take_permits-alike n _ _ alike)
     act-shuffled (Drain n) = turned (Drained (drained n object.line)) _ _ object.held (take_permits-alike (drained n object.line) _ _ alike)
+    act-shuffled Close =
+        shut Done _ _ object.held true _ _ (record { free = alike.free; waiting = refl; granted = alike.granted; wakes = refl }) refl
     act-shuffled (Forget permit) = turned Done _ _ (without (has_name same permit) object.held) alike
     act-shuffled (Split permit made n) = either (nat_le n (size_in (entry_named (has_name same permit) object.held))) (turned Done _ _ _ alike) (turned Nothing _ _ object.held alike)
     act-shuffled (Merge kept spent) = turned Done _ _ _ alike
@@ -303,5 +265,5 @@ module _ {K : Type 0} (same : K → K → Bool) (told : TellsApart same) where
   pub act-alike : (rule : Rule K) (one other : Object (Tag K)) → IsOrderly same one → ObjectsAlike one other → TurnsAlike (act same rule one) (act same rule other)
   act-alike rule one other orderly h =
       subst (λ (object : Object (Tag K)). TurnsAlike (act same rule one) (act same rule object))
-      (λ i. record { kind = sym h.kind i; line = alike_is one.line other.line h.line i; held = sym h.held i })
+      (λ i. record { kind = sym h.kind i; line = alike_is one.line other.line h.line i; held = sym h.held i; closed = sym h.closed i; ended = sym h.ended i })
       (act-shuffled one orderly other.line.granted h.line.granted rule)

@@ -3,9 +3,9 @@ use Rattle.std.proofs.Common.{◌≡◌, ℕ, ◌+◌, ◌≤◌, Bool, true, fa
 use Rattle.std.specs.List.{AllByRecursion, IsDistinct}
 use Rattle.std.proofs.lemmas.Map.Keys.{IsDistinct-head, IsDistinct-tail}
 use Rattle.std.proofs.lemmas.Bool.{true≢false}
-use Rattle.band_balance.specs.Line.{Entry, Line, requests, rename, join, entry_named, poll_granted, cancel}
+use Rattle.band_balance.specs.Line.{Entry, Line, requests, rename, join, entry_named, without, poll_granted, cancel}
 use Rattle.band_balance.proofs.Rename.{join-rename, rename_agree}
-use Rattle.band_balance.proofs.Requests.{count_named, count_named-cons, count_named-none, all-weaker, all-not_named, entry_named-cancel_other, entry_named-poll_granted_other}
+use Rattle.band_balance.proofs.Requests.{count_named, count_named-cons, count_named-none, all-weaker, all-not_named, entry_named-without_other, entry_named-cancel_other, entry_named-poll_granted_other}
 
 -- the names of the entries
 abbrev pub names : List (Entry ℕ) → List ℕ
@@ -43,6 +43,9 @@ once name (x ∷ xs) h = go (name == x.name) refl (once name xs (IsDistinct-tail
         omega arith
 
 -- where one leaves, every other stays
+pub stays-without : (name other : ℕ) (entries : List (Entry ℕ)) → (other ≡ name → ⊥) → entry_named (is_name other) (without (is_name name) entries) ≡ entry_named (is_name other) entries
+stays-without name other entries h = entry_named-without_other (is_name name) (is_name other) entries (apart name other entries h)
+
 pub stays-cancel : (name other : ℕ) (line : Line ℕ) → (other ≡ name → ⊥) → entry_named (is_name other) (requests (cancel (is_name name) line)) ≡ entry_named (is_name other) (requests line)
 stays-cancel name other line h = entry_named-cancel_other (is_name name) (is_name other) line (apart name other (requests line) h)
 

@@ -1,17 +1,17 @@
--- Whom a rule grants and wakes: a front of those that wait, and nobody where nothing is given back.
+-- Whom a rule grants, ends and wakes: a front of those that wait, all of them where it closes, and else nobody.
 use Rattle.std.proofs.Common.{◌≡◌, ℕ, ◌-◌, Bool, true, false, cond, List, [], ◌∷◌, ◌++◌, map, Option, Some, None, pos, ℤ, ◌-ℤ◌, ◌<ℤ◌, ◌≤ℤ◌, int_le, ◌⊎◌, inl, inr, arith, refl, sym, ap, ap₂, ◌∙◌}
 use Rattle.std.proofs.Common.{subst, append_assoc, append-nil}
 use Rattle.std.specs.List.{AllByRecursion, filter}
 use Rattle.std.proofs.lemmas.Bool.{cond_both, or_from, or_parts, or_left, or_right, false≢true}
 use Rattle.std.proofs.lemmas.Int.{ints}
-use Rattle.std.proofs.lemmas.Option.{same_Some}
 use Rattle.std.proofs.lemmas.List.{map-append}
 use Rattle.std.proofs.lemmas.List.Elements.{filter-append}
 use Rattle.std.proofs.lemmas.List.Folds.{list_any-append}
-use Rattle.band_balance.specs.Line.{Entry, Waiting, Line, entry_of, requests, settle, settle_from, give_back, add_permits, entry_named, without, without_waiting, withdraw, cancel}
+use Rattle.band_balance.specs.Line.{Entry, Waiting, Line, entry_of, requests, settle, settle_from, give_back, add_permits, entry_named, without, without_waiting, withdraw, cancel, poll_granted}
 use Rattle.band_balance.specs.Object.{Object, Tag}
 use Rattle.band_balance.specs.Rule.{has_name}
-use Rattle.band_balance.specs.Laws.{Pairwise, IsOrderly, stands_in, granted_between, GrantsAFront}
+use Rattle.band_balance.specs.Laws.{Pairwise, IsOrderly, EndsAs, stands_in, granted_between, told_between, GrantsAFront}
+use Rattle.band_balance.proofs.AnyOrder.{pairwise_back}
 use Rattle.band_balance.proofs.Accounts.{settles_from}
 use Rattle.band_balance.proofs.Held.{TellsApart, other_way}
 use Rattle.band_balance.proofs.Orderly.{pairwise-without}
@@ -19,7 +19,8 @@ use Rattle.band_balance.proofs.Rename.{all_of_first, all_of_second}
 use Rattle.band_balance.proofs.Requests.{all-weaker, all-without, all-found, found_is_named, all-not_named, requests-poll_granted, requests-cancel, entries-without_waiting, without-append_none}
 use Rattle.band_balance.proofs.Settle.{passed, left, wakers, passed-left, requests-settle, granted-settle, waiting-settle, wakes-settle}
 use Rattle.band_balance.proofs.Shares.{both_of_each}
-use Rattle.band_balance.proofs.Turns.{Becomes, receives, returns, ends, comes, lowers}
+use Rattle.band_balance.proofs.Turns.{Becomes, Effect, quiet, grants, shuts, stays, takes, joins, receives, rewakes, returns, ends, comes, goes, drains, forgets}
+use Rattle.band_balance.proofs.Turns.{splits, merges, lowers, tells, closes}
 
 -- what holds always holds of each
 pub each_always : {A : Type 0} (P : A → Type 0) → ((x : A) → P x) → (xs : List A) → AllByRecursion P xs
@@ -207,7 +208,8 @@ module _ {K : Type 0} (same : K → K → Bool) (told : TellsApart same) where
 
   -- Where an object stays as it is, nobody is granted.
   pub granted-same : (object : Object (Tag K)) → IsOrderly same object → granted_between same object.line object.line ≡ []
-  granted-same object orderly = none_granted object.line orderly.none_woken orderly.once object.line (λ w apart. apart)
+  granted-same object orderly =
+      none_granted object.line orderly.none_woken (pairwise_back _ object.ended (requests object.line) orderly.once) object.line (λ w apart. apart)
 
   pub front-same : (object : Object (Tag K)) → IsOrderly same object → GrantsAFront same (λ tag. false) object.line object.line
   front-same object orderly =
@@ -222,32 +224,93 @@ module _ {K : Type 0} (same : K → K → Bool) (told : TellsApart same) where
 
   -- What an object's rule wakes and grants.
   module _ (object : Object (Tag K)) (orderly : IsOrderly same object) where
-    pub record Wakes (back : Option (Tag K → Bool)) (line : Line (Tag K)) : Type 0 where
-      pub granted : line.wakes ≡ wakers (granted_between same object.line line)
-      pub nobody : back ≡ None → line.wakes ≡ []
-      pub front : (left : Tag K → Bool) → back ≡ Some left → GrantsAFront same left object.line line
+    differ_in_line : Differ (requests object.line)
+    differ_in_line = pairwise_back _ object.ended (requests object.line) orderly.once
 
-    quiet_turn : (line : Line (Tag K)) → line.wakes ≡ object.line.wakes → ((w : Waiting (Tag K)) → NotIn object.line.granted w → NotIn line.granted w) → Wakes None line
-    quiet_turn line same_wakes fewer = record {
-      granted = same_wakes ∙ orderly.none_woken ∙ sym (ap wakers (none_granted object.line orderly.none_woken orderly.once line fewer));
-      nobody = λ _. same_wakes ∙ orderly.none_woken;
-      front = λ left impossible. cc;
-    }
+    abbrev pub Wakes : Effect (Tag K) → Line (Tag K) → Type 0
+    Wakes quiet line = (line.wakes ≡ []) × (granted_between same object.line line ≡ [])
+    Wakes (grants left) line = (line.wakes ≡ wakers (granted_between same object.line line)) × GrantsAFront same left object.line line
+    Wakes shuts line = (line.wakes ≡ wakers object.line.waiting) × (line.granted ≡ object.line.granted)
 
-    serving : (line : Line (Tag K)) (means : Tag K → Bool) → Serves object.line orderly.none_woken orderly.once means line → Wakes (Some means) line
-    serving line means serves = record {
-      granted = serves.woken;
-      nobody = λ impossible. cc;
-      front = λ left is. subst (λ m. GrantsAFront same m object.line line) (same_Some means left is) serves.front;
-    }
+    quiet_turn : (line : Line (Tag K)) → line.wakes ≡ object.line.wakes → ((w : Waiting (Tag K)) → NotIn object.line.granted w → NotIn line.granted w) → Wakes quiet line
+    quiet_turn line same_wakes fewer = (same_wakes ∙ orderly.none_woken, none_granted object.line orderly.none_woken differ_in_line line fewer)
 
-    pub wakes-by : {back : Option (Tag K → Bool)} {came gone : ℕ} {who : Option K} {line : Line (Tag K)} {held : List (Entry (Tag K))} → Becomes same object back came gone who line held
-        → Wakes back line
+    serving : (line : Line (Tag K)) (means : Tag K → Bool) → Serves object.line orderly.none_woken differ_in_line means line → Wakes (grants means) line
+    serving line means serves = (serves.woken, serves.front)
+
+    pub wakes-by : {back : Effect (Tag K)} {came gone : ℕ} {who : Option K} {line : Line (Tag K)} {held : List (Entry (Tag K))} {closed : Bool} {ended : List (Entry (Tag K))}
+        → Becomes same object back came gone who line held closed ended → Wakes back line
     wakes-by (receives name entry there) =
-        quiet_turn _ refl
-        (λ w apart. none_stands w.name.name _ (all-without _ (has_name same name) object.line.granted (stands_none w.name.name object.line.granted apart)))
-    wakes-by (returns name entry there) = serving _ _ (serves-give_back object.line orderly.none_woken orderly.once entry.size)
-    wakes-by (ends name) = serving _ _ (serves-cancel object.line orderly.none_woken orderly.once name)
-    wakes-by (comes n fits under) = serving _ _ (serves-give_back object.line orderly.none_woken orderly.once n)
-    wakes-by (lowers name max kind it) = serving _ _ (serves-give_back object.line orderly.none_woken orderly.once (max - 1))
-    wakes-by by = quiet_turn _ refl (λ w apart. apart)
+        quiet_turn (poll_granted (has_name same name) object.line) refl
+        (λ w apart. none_stands w.name.name (without (has_name same name) object.line.granted) (all-without _ (has_name same name) object.line.granted (stands_none w.name.name object.line.granted apart)))
+    wakes-by (returns name entry there) = serving _ _ (serves-give_back object.line orderly.none_woken differ_in_line entry.size)
+    wakes-by (ends name) = serving _ _ (serves-cancel object.line orderly.none_woken differ_in_line name)
+    wakes-by (comes n fits under) = serving _ _ (serves-give_back object.line orderly.none_woken differ_in_line n)
+    wakes-by (lowers name max kind it) = serving _ _ (serves-give_back object.line orderly.none_woken differ_in_line (max - 1))
+    wakes-by (closes permits) = (ap (λ (ns : List ℕ). ns ++ wakers object.line.waiting) orderly.none_woken, refl)
+    wakes-by {line = line} by = quiet_turn line refl (λ w apart. apart)
+
+    -- who hears of it: those that stand among the ended or the granted afterwards
+    abbrev hear : List (Entry (Tag K)) → List (Entry (Tag K)) → List (Waiting (Tag K))
+    hear ended granted = filter (λ (w : Waiting (Tag K)). stands_in same w.name.name (ended ++ granted)) object.line.waiting
+
+    -- of an open object nobody is ended but by a close
+    abbrev EndedBy : Effect (Tag K) → List (Entry (Tag K)) → Type 0
+    EndedBy quiet ended = ended ≡ []
+    EndedBy (grants left) ended = ended ≡ []
+    EndedBy shuts ended = ended ≡ object.ended ++ map entry_of object.line.waiting
+
+    ended-by : object.ended ≡ [] → {back : Effect (Tag K)} {came gone : ℕ} {who : Option K} {line : Line (Tag K)} {held : List (Entry (Tag K))} {closed : Bool} {ended : List (Entry (Tag K))}
+        → Becomes same object back came gone who line held closed ended → EndedBy back ended
+    ended-by none stays = none
+    ended-by none (takes made size served fits) = none
+    ended-by none (joins made size waker waits may) = none
+    ended-by none (receives name entry there) = none
+    ended-by none (rewakes name waker) = none
+    ended-by none (returns name entry there) = none
+    ended-by none (ends name) = ap (without (has_name same name)) none
+    ended-by none (comes n fits under) = none
+    ended-by none (goes n fits over) = none
+    ended-by none (drains n fits) = none
+    ended-by none (forgets name it) = none
+    ended-by none (splits name made n it enough) = none
+    ended-by none (merges kept spent it other apart) = none
+    ended-by none (lowers name max kind it) = none
+    ended-by none (tells name) = ap (without (has_name same name)) none
+    ended-by none (closes permits) = refl
+
+    all_told : (ended granted : List (Entry (Tag K))) → hear (ended ++ map entry_of object.line.waiting) granted ≡ object.line.waiting
+    all_told ended granted =
+        filter_all _ object.line.waiting
+        (all-weaker (IsIn (map entry_of object.line.waiting)) (IsIn ((ended ++ map entry_of object.line.waiting) ++ granted))
+        (λ w is. list_any-append _ (ended ++ map entry_of object.line.waiting) granted ∙ or_left _ _ (list_any-append _ ended (map entry_of object.line.waiting) ∙ or_right _ _ is))
+        object.line.waiting (stand_themselves object.line.waiting))
+
+    told-open : (back : Effect (Tag K)) (line : Line (Tag K)) (ended : List (Entry (Tag K))) → Wakes back line → EndedBy back ended → line.wakes ≡ wakers (hear ended line.granted)
+    told-open quiet line ended woken is = subst (λ (es : List (Entry (Tag K))). line.wakes ≡ wakers (hear es line.granted)) (sym is) (woken.0 ∙ sym (ap wakers woken.1))
+    told-open (grants means) line ended woken is = subst (λ (es : List (Entry (Tag K))). line.wakes ≡ wakers (hear es line.granted)) (sym is) woken.0
+    told-open shuts line ended woken is =
+        subst (λ (es : List (Entry (Tag K))). line.wakes ≡ wakers (hear es line.granted)) (sym is) (woken.0 ∙ sym (ap wakers (all_told object.ended line.granted)))
+
+    nobody-waits : (back : Effect (Tag K)) (line : Line (Tag K)) → Wakes back line → object.line.waiting ≡ [] → line.wakes ≡ []
+    nobody-waits quiet line woken none = woken.0
+    nobody-waits (grants means) line woken none =
+        woken.0 ∙ ap (λ (ws : List (Waiting (Tag K))). wakers (filter (λ (w : Waiting (Tag K)). stands_in same w.name.name line.granted) ws)) none
+    nobody-waits shuts line woken none = woken.0 ∙ ap wakers none
+
+    pub told-by : {back : Effect (Tag K)} {came gone : ℕ} {who : Option K} {line : Line (Tag K)} {held : List (Entry (Tag K))} {closed : Bool} {ended : List (Entry (Tag K))}
+        → Becomes same object back came gone who line held closed ended → line.wakes ≡ wakers (hear ended line.granted)
+    told-by {back} {line = line} {ended = ended} by = go object.closed orderly.closing
+      where
+        go : (shut : Bool) → EndsAs shut object → line.wakes ≡ wakers (hear ended line.granted)
+        go false none = told-open back line ended (wakes-by by) (ended-by none by)
+        go true none =
+            nobody-waits back line (wakes-by by) none.0
+            ∙ sym (ap (λ (ws : List (Waiting (Tag K))). wakers (filter (λ (w : Waiting (Tag K)). stands_in same w.name.name (ended ++ line.granted)) ws)) none.0)
+
+  -- Where an object stays as it is, nobody is told.
+  pub told-same : (object : Object (Tag K)) → IsOrderly same object → told_between same object object ≡ []
+  told-same object orderly =
+      filter_none _ object.line.waiting
+      (all-weaker (NotIn (object.ended ++ object.line.granted)) _ (λ w apart. apart) object.line.waiting
+      (waits_apart (object.ended ++ object.line.granted) object.line.waiting (subst Differ (sym (append_assoc object.ended object.line.granted (map entry_of object.line.waiting))) orderly.once)))

@@ -1,5 +1,6 @@
 pub mod Rename
 pub mod Settle
+pub mod AnyOrder
 pub mod Requests
 pub mod Distinct
 pub mod Turns

@@ -44,12 +44,16 @@ module _ {M N : Type 0} (f : M → N) where
       ap (λ (w : List (Waiting N)). record { free = line.free; waiting = w; granted = map (renamed f) line.granted; wakes = line.wakes })
       (sym (map-append (renamed_waiting f) line.waiting (record { name = name; size = size; waker = waker } ∷ [])))
 
+  pub entries-rename : (waiting : List (Waiting M)) → map entry_of (map (renamed_waiting f) waiting) ≡ map (renamed f) (map entry_of waiting)
+  entries-rename [] = refl
+  entries-rename (w ∷ ws) = ap (λ es. renamed f (entry_of w) ∷ es) (entries-rename ws)
+
+  pub wakers-rename : (waiting : List (Waiting M)) → map (λ (w : Waiting N). w.waker) (map (renamed_waiting f) waiting) ≡ map (λ (w : Waiting M). w.waker) waiting
+  wakers-rename [] = refl
+  wakers-rename (w ∷ ws) = ap (λ ns. w.waker ∷ ns) (wakers-rename ws)
+
   pub requests-rename : (line : Line M) → requests (rename f line) ≡ map (renamed f) (requests line)
-  requests-rename line = ap (λ es. map (renamed f) line.granted ++ es) (entries_renamed line.waiting) ∙ sym (map-append (renamed f) line.granted (map entry_of line.waiting))
-    where
-      entries_renamed : (waiting : List (Waiting M)) → map entry_of (map (renamed_waiting f) waiting) ≡ map (renamed f) (map entry_of waiting)
-      entries_renamed [] = refl
-      entries_renamed (w ∷ ws) = ap (λ es. renamed f (entry_of w) ∷ es) (entries_renamed ws)
+  requests-rename line = ap (λ es. map (renamed f) line.granted ++ es) (entries-rename line.waiting) ∙ sym (map-append (renamed f) line.granted (map entry_of line.waiting))
 
   -- A test on the old names and one on the new names.
   module _ (is : M → Bool) (is' : N → Bool) where

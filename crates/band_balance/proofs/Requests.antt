@@ -220,6 +220,21 @@ module _ {N : Type 0} where
   none-from_all is (x ∷ xs) h = rw h.0 (none-from_all is xs h.1)
 
 -- a weaker fact of each
+-- Who is found in two lists, one behind the other.
+module _ {N : Type 0} (is : N → Bool) where
+  pub not_in_front : (xs ys : List (Entry N)) → entry_named is (xs ++ ys) ≡ None → entry_named is xs ≡ None
+  not_in_front xs ys nobody = none-from_all is xs (all_of_first _ xs ys (all-not_named is (xs ++ ys) nobody))
+
+  pub not_behind : (xs ys : List (Entry N)) → entry_named is (xs ++ ys) ≡ None → entry_named is ys ≡ None
+  not_behind xs ys nobody = none-from_all is ys (all_of_second _ xs ys (all-not_named is (xs ++ ys) nobody))
+
+  pub found_behind : (xs ys : List (Entry N)) → entry_named is xs ≡ None → entry_named is (xs ++ ys) ≡ entry_named is ys
+  found_behind xs ys none = entry_named-append is xs ys ∙ ap (λ (o : Option (Entry N)). option_or o (entry_named is ys)) none
+
+  -- the same where each of the two has the same
+  pub in_parts : (xs ys xs' ys' : List (Entry N)) → entry_named is xs' ≡ entry_named is xs → entry_named is ys' ≡ entry_named is ys → entry_named is (xs' ++ ys') ≡ entry_named is (xs ++ ys)
+  in_parts xs ys xs' ys' front back = entry_named-append is xs' ys' ∙ ap₂ option_or front back ∙ sym (entry_named-append is xs ys)
+
 pub all-weaker : {X : Type 0} (P Q : X → Type 0) → ((x : X) → P x → Q x) → (xs : List X) → AllByRecursion P xs → AllByRecursion Q xs
 all-weaker P Q weaker [] h = tt
 all-weaker P Q weaker (x ∷ xs) h = (weaker x h.0, all-weaker P Q weaker xs h.1)

@@ -1,27 +1,32 @@
 -- The laws of an object, for any comparison that tells names apart.
-use Rattle.std.proofs.Common.{◌≡◌, ℕ, ◌≤◌, Bool, false, true, [], pos, neg_ℤ, ◌+ℤ◌, ◌≤ℤ◌, refl, sym, subst, arith}
+use Rattle.std.proofs.Common.{◌≡◌, ℕ, ◌≤◌, Bool, false, true, [], pos, neg_ℤ, ◌+ℤ◌, ◌≤ℤ◌, ◌||◌, refl, sym, ap, subst, ◌∙◌, arith}
 use Rattle.std.specs.Str.{bytes_eq}
-use Rattle.std.proofs.lemmas.Bool.{cond-true, cond-false}
+use Rattle.std.proofs.lemmas.Bool.{cond-true, cond-false, or_parts}
 use Rattle.std.proofs.lemmas.Int.{ints}
 use Rattle.std.proofs.lemmas.Slice.Eq.{bytes_eq-Decides}
 use Rattle.band_balance.specs.Line.{requests, u64_max}
 use Rattle.band_balance.specs.Object.{Object, Turn, Kind, Semaphore, Mutex, ReaderWriter, Tag, new_object}
-use Rattle.band_balance.specs.Rule.{Rule, IsAllowed, act, leaver, brought, removed, joiner, may_grant}
-use Rattle.band_balance.specs.Laws.{permits, IsWithin, HasAShare, KeepsShares, IsOrderly, granted_between, GrantsAFront}
+use Rattle.band_balance.specs.Rule.{Rule, Close, closes, IsAllowed, act, leaver, brought, removed, joiner, may_grant, may_wake}
+use Rattle.band_balance.specs.Laws.{permits, IsWithin, HasAShare, KeepsShares, IsOrderly, told_between, GrantsAFront}
 use Rattle.band_balance.proofs.Accounts.{accounts}
-use Rattle.band_balance.proofs.Fronts.{Wakes, wakes-by}
+use Rattle.band_balance.proofs.Fronts.{Wakes, wakes-by, told-by}
 use Rattle.band_balance.proofs.Held.{TellsApart}
 use Rattle.band_balance.proofs.Orderly.{Queues, queues, orderly-by}
 use Rattle.band_balance.proofs.Shares.{within-by, shares-by}
 use Rattle.band_balance.proofs.Settle.{wakers}
-use Rattle.band_balance.proofs.Turns.{TurnsBy, turns_by, gives}
+use Rattle.band_balance.proofs.Turns.{TurnsBy, turns_by, gives, is_shut, closed_by}
+
+-- a close closes, and nothing else
+closing_by : {K : Type 0} (same : K → K → Bool) (rule : Rule K) (object : Object (Tag K)) → is_shut (gives same rule object) ≡ closes rule
+closing_by same Close object = refl
+closing_by same rule object = refl
 
 module _ {K : Type 0} (same : K → K → Bool) (told : TellsApart same) (rule : Rule K) (object : Object (Tag K)) (allowed : IsAllowed same rule object) where
   by : TurnsBy same object rule
   by = turns_by same object rule allowed
 
   -- what holds of what the rule becomes holds of its turn
-  of_turn : (P : Turn (Tag K) → Type 0) → P (record { answer = by.answer; woken = by.line.wakes; object = record object { line = record by.line { wakes = [] }; held = by.held } })
+  of_turn : (P : Turn (Tag K) → Type 0) → P (record { answer = by.answer; woken = by.line.wakes; object = record object { line = record by.line { wakes = [] }; held = by.held; closed = by.closed; ended = by.ended } })
       → P (act same rule object)
   of_turn P is = subst P (sym by.turns) is
 
@@ -42,6 +47,9 @@ module _ {K : Type 0} (same : K → K → Bool) (told : TellsApart same) (rule :
   pub kind-act : (act same rule object).object.kind ≡ object.kind
   kind-act = of_turn (λ t. t.object.kind ≡ object.kind) refl
 
+  pub closed-act : (act same rule object).object.closed ≡ closes rule || object.closed
+  closed-act = of_turn (λ t. t.object.closed ≡ closes rule || object.closed) (closed_by same object by.becomes ∙ ap (λ c. c || object.closed) (closing_by same rule object))
+
   pub queues-act : Queues same object (joiner rule object) (requests (act same rule object).object.line)
   queues-act = of_turn (λ t. Queues same object (joiner rule object) (requests t.object.line)) (queues same object by.becomes)
 
@@ -49,14 +57,17 @@ module _ {K : Type 0} (same : K → K → Bool) (told : TellsApart same) (rule :
     wakes : Wakes same told object orderly (gives same rule object) by.line
     wakes = wakes-by same told object orderly by.becomes
 
-    pub woken-act : (act same rule object).woken ≡ wakers (granted_between same object.line (act same rule object).object.line)
-    woken-act = of_turn (λ t. t.woken ≡ wakers (granted_between same object.line t.object.line)) wakes.granted
+    pub woken-act : (act same rule object).woken ≡ wakers (told_between same object (act same rule object).object)
+    woken-act = of_turn (λ t. t.woken ≡ wakers (told_between same object t.object)) (told-by same told object orderly by.becomes)
 
-    pub nobody-act : may_grant rule ≡ false → (act same rule object).woken ≡ []
-    nobody-act none = of_turn (λ t. t.woken ≡ []) (wakes.nobody (cond-false _ _ _ none))
+    pub nobody-act : may_wake rule ≡ false → (act same rule object).woken ≡ []
+    nobody-act none =
+        of_turn (λ t. t.woken ≡ [])
+        (let neither = or_parts (may_grant rule) (closes rule) none in
+        subst (λ back. Wakes same told object orderly back by.line) (cond-false _ _ _ neither.0 ∙ cond-false _ _ _ neither.1) wakes).0
 
     pub front-act : may_grant rule ≡ true → GrantsAFront same (leaver same rule object) object.line (act same rule object).object.line
-    front-act gives_back = of_turn (λ t. GrantsAFront same (leaver same rule object) object.line t.object.line) (still (wakes.front _ (cond-true _ _ _ gives_back)))
+    front-act gives_back = of_turn (λ t. GrantsAFront same (leaver same rule object) object.line t.object.line) (still (subst (λ back. Wakes same told object orderly back by.line) (cond-true _ _ _ gives_back) wakes).1)
       where
         still : GrantsAFront same (leaver same rule object) object.line by.line → GrantsAFront same (leaver same rule object) object.line (record by.line { wakes = [] })
         still front = record { requested = front.requested; waiting = front.waiting; granted = front.granted; owed = front.owed }
@@ -75,24 +86,24 @@ module _ {K : Type 0} (same : K → K → Bool) where
   adds_up n = omega (arith, ints)
 
   pub new_semaphore_is : (n : ℕ) → NewObject same (new_object Semaphore n)
-  new_semaphore_is n = record { nobody = refl; orderly = record { none_woken = refl; head_waits = tt; once = tt; each_request = tt; each_held = tt }; keeps_shares = tt }
+  new_semaphore_is n = record { nobody = refl; orderly = record { none_woken = refl; head_waits = tt; once = tt; each_request = tt; each_held = tt; closing = refl }; keeps_shares = tt }
 
   pub new_mutex_is : NewObject same (new_object Mutex 1)
   new_mutex_is = record {
     nobody = refl;
-    orderly = record { none_woken = refl; head_waits = tt; once = tt; each_request = tt; each_held = tt };
+    orderly = record { none_woken = refl; head_waits = tt; once = tt; each_request = tt; each_held = tt; closing = refl };
     keeps_shares = record { none_owed = none_owed 1; adds_up = adds_up 1 };
   }
 
   pub new_reader_writer_is : (max : ℕ) → NewObject same (new_object (ReaderWriter max) max)
   new_reader_writer_is max = record {
     nobody = refl;
-    orderly = record { none_woken = refl; head_waits = tt; once = tt; each_request = tt; each_held = tt };
+    orderly = record { none_woken = refl; head_waits = tt; once = tt; each_request = tt; each_held = tt; closing = refl };
     keeps_shares = record { none_owed = none_owed max; adds_up = adds_up max };
   }
 
 -- one of so many permits or shares, and nobody there, is within the bounds
-pub within_new : {N : Type 0} (kind : Kind) (n : ℕ) → n ≤ u64_max → IsWithin {N = N} (record { kind = kind; line = record { free = pos n; waiting = []; granted = []; wakes = [] }; held = [] })
+pub within_new : {N : Type 0} (kind : Kind) (n : ℕ) → n ≤ u64_max → IsWithin {N = N} (record { kind = kind; line = record { free = pos n; waiting = []; granted = []; wakes = [] }; held = []; closed = false; ended = [] })
 within_new kind n small = record { in_hand = omega arith; in_all = few n small; owed = enough n }
   where
     few : (n : ℕ) → n ≤ u64_max → (pos n +ℤ pos 0) ≤ℤ pos u64_max

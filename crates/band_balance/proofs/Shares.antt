@@ -4,16 +4,16 @@ use Rattle.std.proofs.Common.{arith, append_assoc}
 use Rattle.std.specs.List.{AllByRecursion}
 use Rattle.std.proofs.lemmas.Int.{ints}
 use Rattle.std.proofs.lemmas.Bool.{true≢false}
-use Rattle.band_balance.specs.Line.{Entry, Line, total, entry_of, u64_max}
+use Rattle.band_balance.specs.Line.{Entry, Line, total, entry_of, requests, u64_max}
 use Rattle.band_balance.specs.Object.{Object, Kind, Semaphore, Mutex, ReaderWriter, Mode, Permit, Lock, Read, Write, Tag, is_of, size_of}
 use Rattle.band_balance.specs.Rule.{Fits}
 use Rattle.band_balance.specs.Laws.{permits, in_hand, IsWithin, share_count, HasAShare, HasShares, KeepsShares, ExclusiveAs, IsExclusive, IsOrderly}
 use Rattle.band_balance.proofs.Accounts.{Accounts, Owes, hand, accounts}
 use Rattle.band_balance.proofs.Held.{TellsApart, total-push}
-use Rattle.band_balance.proofs.Rename.{all_of_first, all_of_both}
+use Rattle.band_balance.proofs.Rename.{all_of_first, all_of_second, all_of_both}
 use Rattle.band_balance.proofs.Requests.{all-weaker}
 use Rattle.band_balance.proofs.Settle.{total-append, total-cons}
-use Rattle.band_balance.proofs.Turns.{Becomes, comes, goes, drains, forgets}
+use Rattle.band_balance.proofs.Turns.{Becomes, Effect, comes, goes, drains, forgets}
 
 -- what comes fits in
 has_room : (z : ℤ) (g h n : ℕ) → int_lt (pos u64_max) (z +ℤ pos (g + h + n)) ≡ false → (z +ℤ pos (g + h) +ℤ pos n) ≤ℤ pos u64_max
@@ -23,14 +23,14 @@ none_comes : (z : ℤ) → z ≤ℤ pos u64_max → (z +ℤ pos 0) ≤ℤ pos u6
 none_comes z small = omega (arith, ints)
 
 module _ {K : Type 0} (same : K → K → Bool) (told : TellsApart same) (object : Object (Tag K)) (lets : HasAShare object.kind) where
-  room : IsWithin object → {back : Option (Tag K → Bool)} {came gone : ℕ} {who : Option K} {line : Line (Tag K)} {held : List (Entry (Tag K))} → Becomes same object back came gone who line held
+  room : IsWithin object → {back : Effect (Tag K)} {came gone : ℕ} {who : Option K} {line : Line (Tag K)} {held : List (Entry (Tag K))} {closed : Bool} {ended : List (Entry (Tag K))} → Becomes same object back came gone who line held closed ended
       → (permits object +ℤ pos came) ≤ℤ pos u64_max
   room is (comes n fits under) = has_room object.line.free (total object.line.granted) (total object.held) n under
   room is by = none_comes (permits object) is.in_all
 
-  pub within-by : IsWithin object → {back : Option (Tag K → Bool)} {came gone : ℕ} {who : Option K} {line : Line (Tag K)} {held : List (Entry (Tag K))}
-      → Becomes same object back came gone who line held
-      → IsWithin (record object { line = record line { wakes = [] }; held = held })
+  pub within-by : IsWithin object → {back : Effect (Tag K)} {came gone : ℕ} {who : Option K} {line : Line (Tag K)} {held : List (Entry (Tag K))} {closed : Bool} {ended : List (Entry (Tag K))}
+      → Becomes same object back came gone who line held closed ended
+      → IsWithin (record object { line = record line { wakes = [] }; held = held; closed = closed; ended = ended })
   within-by is {came = came} {gone = gone} {line = line} {held = held} by = record { in_hand = in_hand_by sums.debt; in_all = all; owed = owed_by sums.debt }
     where
       sums : Accounts object came gone line held
@@ -55,8 +55,8 @@ module _ {K : Type 0} (same : K → K → Bool) (told : TellsApart same) (object
       owed_by (inr (inr owed, less)) = owed.1
 
   -- nothing is brought to a lock, and nothing taken away for good
-  only_moves : is_of object.kind Permit ≡ false → {back : Option (Tag K → Bool)} {came gone : ℕ} {who : Option K} {line : Line (Tag K)} {held : List (Entry (Tag K))}
-      → Becomes same object back came gone who line held → (came ≡ 0) × (gone ≡ 0)
+  only_moves : is_of object.kind Permit ≡ false → {back : Effect (Tag K)} {came gone : ℕ} {who : Option K} {line : Line (Tag K)} {held : List (Entry (Tag K))} {closed : Bool} {ended : List (Entry (Tag K))}
+      → Becomes same object back came gone who line held closed ended → (came ≡ 0) × (gone ≡ 0)
   only_moves lock (comes n fits under) = absurd (true≢false (sym fits ∙ lock))
   only_moves lock (goes n fits over) = absurd (true≢false (sym fits ∙ lock))
   only_moves lock (drains n fits) = absurd (true≢false (sym fits ∙ lock))
@@ -64,8 +64,8 @@ module _ {K : Type 0} (same : K → K → Bool) (told : TellsApart same) (object
   only_moves lock by = (refl, refl)
 
   shares_kept : is_of object.kind Permit ≡ false → (shares : ℕ) → HasShares object shares
-      → {back : Option (Tag K → Bool)} {came gone : ℕ} {who : Option K} {line : Line (Tag K)} {held : List (Entry (Tag K))}
-      → Becomes same object back came gone who line held → HasShares (record object { line = record line { wakes = [] }; held = held }) shares
+      → {back : Effect (Tag K)} {came gone : ℕ} {who : Option K} {line : Line (Tag K)} {held : List (Entry (Tag K))} {closed : Bool} {ended : List (Entry (Tag K))}
+      → Becomes same object back came gone who line held closed ended → HasShares (record object { line = record line { wakes = [] }; held = held; closed = closed; ended = ended }) shares
   shares_kept lock shares has {came = came} {gone = gone} {line = line} {held = held} by = record { none_owed = unowed sums.debt; adds_up = whole sums.sum }
     where
       sums : Accounts object came gone line held
@@ -84,12 +84,12 @@ module _ {K : Type 0} (same : K → K → Bool) (told : TellsApart same) (object
           same_sum : (z : ℤ) (h : ℕ) (s : ℤ) → z +ℤ pos h +ℤ pos 0 ≡ s +ℤ pos 0 → z +ℤ pos h ≡ s
           same_sum z h s e = omega (arith, ints)
 
-  pub shares-by : KeepsShares object → {back : Option (Tag K → Bool)} {came gone : ℕ} {who : Option K} {line : Line (Tag K)} {held : List (Entry (Tag K))}
-      → Becomes same object back came gone who line held
-      → KeepsShares (record object { line = record line { wakes = [] }; held = held })
-  shares-by is {line = line} {held = held} by = go object.kind refl is
+  pub shares-by : KeepsShares object → {back : Effect (Tag K)} {came gone : ℕ} {who : Option K} {line : Line (Tag K)} {held : List (Entry (Tag K))} {closed : Bool} {ended : List (Entry (Tag K))}
+      → Becomes same object back came gone who line held closed ended
+      → KeepsShares (record object { line = record line { wakes = [] }; held = held; closed = closed; ended = ended })
+  shares-by is {line = line} {held = held} {closed = closed} {ended = ended} by = go object.kind refl is
     where
-      go : (kind : Kind) → kind ≡ object.kind → IfSome (share_count kind) (HasShares object) → IfSome (share_count kind) (HasShares (record object { line = record line { wakes = [] }; held = held }))
+      go : (kind : Kind) → kind ≡ object.kind → IfSome (share_count kind) (HasShares object) → IfSome (share_count kind) (HasShares (record object { line = record line { wakes = [] }; held = held; closed = closed; ended = ended }))
       go Semaphore kind has = tt
       go Mutex kind has = shares_kept (ap (λ k. is_of k Permit) (sym kind)) 1 has by
       go (ReaderWriter max) kind has = shares_kept (ap (λ k. is_of k Permit) (sym kind)) max has by
@@ -183,4 +183,5 @@ module _ {K : Type 0} where
   pub exclusive : (same : K → K → Bool) (object : Object (Tag K)) → HasAShare object.kind → KeepsShares object → IsOrderly same object → IsExclusive object
   exclusive same object lets has is =
       exclusive_as object.kind object lets has
-      (all_of_both _ object.line.granted object.held (all_of_first _ object.line.granted (map entry_of object.line.waiting) is.each_request) is.each_held)
+      (all_of_both _ object.line.granted object.held
+      (all_of_first _ object.line.granted (map entry_of object.line.waiting) (all_of_second _ object.ended (requests object.line) is.each_request)) is.each_held)

@@ -1,10 +1,11 @@
 -- What is so of an object between any two rules, and what a rule does to those in its line.
-use Rattle.std.specs.Prelude.{◌≡◌, ℕ, ◌+◌, ◌<◌, ◌≤◌, Bool, false, List, [], ◌∷◌, ◌++◌, map, length, ℤ, pos}
+use Rattle.std.specs.Prelude.{◌≡◌, ℕ, ◌+◌, ◌<◌, ◌≤◌, Bool, true, false, List, [], ◌∷◌, ◌++◌, map, length, ℤ, pos}
 use Rattle.std.specs.Prelude.{neg_ℤ, ◌+ℤ◌, ◌≤ℤ◌, ◌<ℤ◌, Option, Some, None, IfSome}
 use Rattle.std.specs.List.{AllByRecursion, list_any, filter}
 use Rattle.band_balance.specs.Line.{Entry, Waiting, Line, AreAlike, entry_of, requests, total, u64_max}
 use Rattle.band_balance.specs.Line.{without, without_waiting}
-use Rattle.band_balance.specs.Object.{Object, Turn, Kind, Semaphore, Mutex, ReaderWriter, Write, Tag}
+use Rattle.band_balance.specs.Object.{Object, Turn, Kind, Semaphore, Mutex, ReaderWriter, Permit, Write, Tag}
+use Rattle.band_balance.specs.Object.{is_of, asked}
 use Rattle.band_balance.specs.Rule.{Fits, has_name}
 use Rattle.band_balance.specs.Settled.{HeadWaits}
 
@@ -56,17 +57,23 @@ ExclusiveAs {K} (ReaderWriter max) entries =
 abbrev pub IsExclusive : {K : Type 0} → Object (Tag K) → Type 0
 IsExclusive object = ExclusiveAs object.kind (in_hand object)
 
+-- of an open object nobody is ended, and of a closed one, which is a semaphore, nobody waits
+abbrev pub EndsAs : {N : Type 0} → Bool → Object N → Type 0
+EndsAs false object = object.ended ≡ []
+EndsAs true object = (object.line.waiting ≡ []) × (is_of object.kind Permit ≡ true)
+
 module _ {K : Type 0} (same : K → K → Bool) where
   -- what is so between any two rules
   pub record IsOrderly (object : Object (Tag K)) : Type 0 where
     pub none_woken : object.line.wakes ≡ []
     pub head_waits : HeadWaits object.line.free object.line.waiting
     -- a name has one request at most
-    pub once : Pairwise (λ (a b : Entry (Tag K)). same a.name.name b.name.name ≡ false) (requests object.line)
+    pub once : Pairwise (λ (a b : Entry (Tag K)). same a.name.name b.name.name ≡ false) (asked object)
     -- what each entry asks for or holds can be asked for of the object
     pub each_request :
-        AllByRecursion (λ (e : Entry (Tag K)). Fits object.kind e.name.mode e.size) (requests object.line)
+        AllByRecursion (λ (e : Entry (Tag K)). Fits object.kind e.name.mode e.size) (asked object)
     pub each_held : AllByRecursion (λ (e : Entry (Tag K)). Fits object.kind e.name.mode e.size) object.held
+    pub closing : EndsAs object.closed object
 
   abbrev pub stands_in : K → List (Entry (Tag K)) → Bool
   stands_in name entries = list_any (λ e. has_name same name e.name) entries
@@ -74,6 +81,11 @@ module _ {K : Type 0} (same : K → K → Bool) where
   -- those that waited in a line before and are granted after, in order
   abbrev pub granted_between : Line (Tag K) → Line (Tag K) → List (Waiting (Tag K))
   granted_between before after = filter (λ w. stands_in w.name.name after.granted) before.waiting
+
+  -- those that waited for an object before and are granted or ended after, in order
+  abbrev pub told_between : Object (Tag K) → Object (Tag K) → List (Waiting (Tag K))
+  told_between before after =
+      filter (λ w. stands_in w.name.name (after.ended ++ after.line.granted)) before.line.waiting
 
   -- Those granted now stood in front of those that wait still, and follow those granted before. Just `left`
   -- left the line.
@@ -90,6 +102,8 @@ pub record ObjectsAlike {N : Type 0} (one other : Object N) : Type 0 where
   pub kind : other.kind ≡ one.kind
   pub line : AreAlike one.line other.line
   pub held : other.held ≡ one.held
+  pub closed : other.closed ≡ one.closed
+  pub ended : other.ended ≡ one.ended
 
 pub record TurnsAlike {N : Type 0} (one other : Turn N) : Type 0 where
   pub answer : other.answer ≡ one.answer

@@ -1,7 +1,7 @@
--- An object: its kind, its line and what is held of it. A turn of it answers, wakes some wakers in order, and
--- leaves the object.
+-- An object: its kind, its line, what is held of it, whether it is closed, and who was ended. A turn of it
+-- answers, wakes some wakers in order, and leaves the object.
 use Rattle.std.specs.Prelude.{ℕ, Bool, true, false, List, [], ◌∷◌, ◌++◌, ℤ, if◌then◌else◌, Option, Some, None}
-use Rattle.band_balance.specs.Line.{Entry, Line, open_line}
+use Rattle.band_balance.specs.Line.{Entry, Line, open_line, requests}
 
 pub data Kind : Type 0 where
   Semaphore : Kind
@@ -20,6 +20,10 @@ pub record Object (N : Type 0) : Type 0 where
   pub kind : Kind
   pub line : Line N
   pub held : List (Entry N)
+  -- only a semaphore is ever closed
+  pub closed : Bool
+  -- the requests that waited when it was closed, and have not polled since
+  pub ended : List (Entry N)
 
 -- what a call answers
 pub data Answer : Type 0 where
@@ -27,6 +31,7 @@ pub data Answer : Type 0 where
   Ready : Answer
   Pending : Answer
   Nothing : Answer
+  Closed : Answer
   Drained : (count : ℕ) → Answer
   Figures : (available : ℕ) (free : ℤ) (waiting granted held : ℕ) → Answer
 
@@ -60,7 +65,12 @@ tag mode name = record { name = name; mode = mode }
 module _ {N : Type 0} where
   -- an object with so many permits or shares, and nobody there
   abbrev pub new_object : Kind → ℕ → Object N
-  new_object kind count = record { kind = kind; line = open_line count; held = [] }
+  new_object kind count =
+      record { kind = kind; line = open_line count; held = []; closed = false; ended = [] }
+
+  -- who has asked and has not been answered: those that were ended, and those in the line
+  abbrev pub asked : Object N → List (Entry N)
+  asked object = object.ended ++ requests object.line
 
   -- the answer is given, and the wakers that the line has to wake are woken
   abbrev pub turn : Answer → Object N → Turn N

@@ -1,15 +1,15 @@
 -- What can be done to an object, as data: what each rule makes of it, and what is tested before it is done.
 -- K is what a name is, and `same` says whether two names are one.
-use Rattle.std.specs.Prelude.{◌≡◌, ℕ, ◌+◌, ◌-◌, Bool, true, false, not, ◌&&◌, is_some, if◌then◌else◌, nat_le}
-use Rattle.std.specs.Prelude.{length, [], ◌∷◌, ◌++◌, Option, Some, None, IsSome}
+use Rattle.std.specs.Prelude.{◌≡◌, ℕ, ◌+◌, ◌-◌, Bool, true, false, not, ◌&&◌, ◌||◌, is_some, if◌then◌else◌, nat_le}
+use Rattle.std.specs.Prelude.{length, map, [], ◌∷◌, ◌++◌, Option, Some, None, IsSome}
 use Rattle.std.specs.Option.{option_map_or}
-use Rattle.band_balance.specs.Line.{Entry, requests, total, is_served, take_permits, give_back, join}
+use Rattle.band_balance.specs.Line.{Entry, total, entry_of, is_served, take_permits, give_back, join}
 use Rattle.band_balance.specs.Line.{available, drained}
 use Rattle.band_balance.specs.Line.{overflows, owes_too_much, entry_named, without, poll_granted}
-use Rattle.band_balance.specs.Line.{poll_waiting, cancel}
-use Rattle.band_balance.specs.Object.{Object, Turn, Done, Ready, Pending, Nothing, Drained, Figures, Mode}
-use Rattle.band_balance.specs.Object.{Permit, Read, Write}
-use Rattle.band_balance.specs.Object.{Kind, Tag, tag, is_of, size_of, turn, hold, change, size_in}
+use Rattle.band_balance.specs.Line.{poll_waiting, cancel, end_waiting}
+use Rattle.band_balance.specs.Object.{Object, Turn, Done, Ready, Pending, Nothing, Closed, Drained, Figures}
+use Rattle.band_balance.specs.Object.{Mode, Permit, Read, Write}
+use Rattle.band_balance.specs.Object.{Kind, Tag, tag, is_of, size_of, turn, hold, change, size_in, asked}
 
 pub data Rule (K : Type 0) : Type 0 where
   -- a first poll of a new request for so much, which leaves a waker
@@ -21,6 +21,7 @@ pub data Rule (K : Type 0) : Type 0 where
   Release : (n : ℕ) → Rule K
   Reduce : (n : ℕ) → Rule K
   Drain : (n : ℕ) → Rule K
+  Close : Rule K
   Forget : (permit : K) → Rule K
   Split : (permit made : K) (n : ℕ) → Rule K
   Merge : (kept spent : K) → Rule K
@@ -46,15 +47,19 @@ module _ {K : Type 0} (same : K → K → Bool) where
         held = hold made size object.held;
       })
       else turn Pending (record object { line = join made size waker object.line })
-  -- a later poll: one that was granted holds its permits from now on, and one that waits leaves its new waker
+  -- a later poll: one that was ended hears of it and leaves, one that was granted holds its permits from now on,
+  -- and one that waits leaves its new waker
   act (Poll name waker) object =
       option_map_or
+      (λ ended. turn Closed (record object { ended = without (has_name name) object.ended }))
+      (entry_named (has_name name) object.ended)
+      (option_map_or
       (λ granted. turn Ready (record object {
         line = poll_granted (has_name name) object.line;
         held = object.held ++ granted ∷ [];
       }))
       (entry_named (has_name name) object.line.granted)
-      (turn Pending (record object { line = poll_waiting (has_name name) waker object.line }))
+      (turn Pending (record object { line = poll_waiting (has_name name) waker object.line })))
   -- where a first poll would be served, the same, and else nothing changes
   act (Try made size) object =
       if is_served size object.line
@@ -71,12 +76,21 @@ module _ {K : Type 0} (same : K → K → Bool) where
         held = without (has_name name) object.held;
       }))
       (entry_named (has_name name) object.held)
-      (turn Done (record object { line = cancel (has_name name) object.line }))
+      (turn Done (record object {
+        line = cancel (has_name name) object.line;
+        ended = without (has_name name) object.ended;
+      }))
   act (Release n) object = turn Done (record object { line = give_back n object.line })
   act (Reduce n) object = turn Done (record object { line = take_permits n object.line })
   act (Drain n) object =
       let count = drained n object.line in
       turn (Drained count) (record object { line = take_permits count object.line })
+  -- all that wait are ended, in order, and are to be woken; where it is closed already, nobody waits
+  act Close object = turn Done (record object {
+    line = end_waiting object.line;
+    closed = true;
+    ended = object.ended ++ map entry_of object.line.waiting;
+  })
   -- what is held ends, and nothing comes back
   act (Forget permit) object = turn Done (record object { held = without (has_name permit) object.held })
   -- n go to a new permit; where there are fewer, nothing changes
@@ -112,7 +126,7 @@ module _ {K : Type 0} (same : K → K → Bool) where
 
   -- no request of the object has this name, and nothing that is held of it
   pub record IsFresh (name : K) (object : Object (Tag K)) : Type 0 where
-    pub asked : entry_named (has_name name) (requests object.line) ≡ None
+    pub asked : entry_named (has_name name) (asked object) ≡ None
     pub held : entry_named (has_name name) object.held ≡ None
 
   -- the name holds something of the object in this mode
@@ -121,16 +135,23 @@ module _ {K : Type 0} (same : K → K → Bool) where
     pub there : entry_named (has_name name) object.held ≡ Some entry
     pub fits : Fits object.kind mode entry.size
 
+  -- a new request for so much: the name is free, the object is open, and so much can be asked for
+  pub record MayAsk (made : Tag K) (size : ℕ) (object : Object (Tag K)) : Type 0 where
+    pub fresh : IsFresh made.name object
+    pub not_closed : object.closed ≡ false
+    pub fits : Fits object.kind made.mode size
+
   -- what is tested before a rule is done
   abbrev pub IsAllowed : Rule K → Object (Tag K) → Type 0
-  IsAllowed (Ask made size waker) object = IsFresh made.name object × Fits object.kind made.mode size
-  IsAllowed (Poll name waker) object = IsSome (entry_named (has_name name) (requests object.line))
-  IsAllowed (Try made size) object = IsFresh made.name object × Fits object.kind made.mode size
-  IsAllowed (Drop name) object = IsSome (entry_named (has_name name) (requests object.line ++ object.held))
+  IsAllowed (Ask made size waker) object = MayAsk made size object
+  IsAllowed (Poll name waker) object = IsSome (entry_named (has_name name) (asked object))
+  IsAllowed (Try made size) object = MayAsk made size object
+  IsAllowed (Drop name) object = IsSome (entry_named (has_name name) (asked object ++ object.held))
   IsAllowed (Release n) object = Fits object.kind Permit n
       × (overflows n object.line (total object.held) ≡ false)
   IsAllowed (Reduce n) object = Fits object.kind Permit n × (owes_too_much n object.line ≡ false)
   IsAllowed (Drain n) object = Fits object.kind Permit n
+  IsAllowed Close object = is_of object.kind Permit ≡ true
   IsAllowed (Forget permit) object = Holds Permit permit object
   IsAllowed (Split permit made n) object = Holds Permit permit object × IsFresh made object
   IsAllowed (Merge kept spent) object =
@@ -160,3 +181,12 @@ may_grant (Drop name) = true
 may_grant (Release n) = true
 may_grant (Downgrade writer) = true
 may_grant rule = false
+
+-- what ends those that wait
+abbrev pub closes : {K : Type 0} → Rule K → Bool
+closes Close = true
+closes rule = false
+
+-- what may wake somebody
+abbrev pub may_wake : {K : Type 0} → Rule K → Bool
+may_wake rule = may_grant rule || closes rule

@@ -5,7 +5,7 @@
 mod laws;
 
 pub use laws::{
-    only_giving_back_wakes_anybody, permits_add_up, rules_grant_a_front, rules_keep_bounds,
-    rules_keep_order, rules_keep_shares, rules_look_at_no_order, rules_wake_the_granted,
-    who_writes_is_alone,
+    closing_is_for_good, only_giving_back_and_closing_wake, permits_add_up, rules_grant_a_front,
+    rules_keep_bounds, rules_keep_order, rules_keep_shares, rules_look_at_no_order,
+    rules_wake_who_is_told, who_writes_is_alone,
 };

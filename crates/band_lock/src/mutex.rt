@@ -1,5 +1,5 @@
 //! The mutex.
-ghost use Rattle.std.specs.Prelude.{◌≡◌, ◌≤◌, ◌↔◌, IsTrue, IsSome, IfSome, OnSome, IfNone};
+ghost use Rattle.std.specs.Prelude.{◌≡◌, ◌≤◌, ◌↔◌, IsTrue, IsSome, IfSome, OnSome, IfNone, IsErrOf};
 ghost use Rattle.band_balance.specs.Line.{is_served};
 ghost use Rattle.band_sem.specs.Laws.{KeepsOrder, Leaves};
 ghost use Rattle.band_sem.specs.Permit.{new_permit};
@@ -145,9 +145,11 @@ impl LockRequest {
         steps: &mut Steps<L>,
     ) -> Result<Poll<LockGuard>, PollError>
         requires number { self.old.of ≡ m.old.number }
-        requires own { IsOwn self.old.stage self.old.size m.old.line }
+        requires own { IsOwn self.old.stage self.old.size m.old }
         ensures one { self.old.size ≡ 1 }
         ensures polls { Polls self.old waker.0 m.old result self.new m.new }
+        // Its semaphore is never closed.
+        ensures never_closed { IsErrOf result PollError.Closed → ⊥ }
         ensures order { KeepsOrder m.old.line m.new.line }
         ensures lawful { IsLawful m.new }
         ensures whole { IsWhole 1 m.new }
@@ -162,7 +164,7 @@ impl LockRequest {
     /// Ends the request. One that waits leaves the line, and one that was granted unlocks. Then the line settles.
     pub fn cancel<L: Ledger>(self, m: &mut MutexState, steps: &mut Steps<L>)
         requires number { self.of ≡ m.old.number }
-        requires own { IsOwn self.stage self.size m.old.line }
+        requires own { IsOwn self.stage self.size m.old }
         ensures state { IsLike (cancelled self.stage m.old) m.new }
         ensures others { Leaves self.stage m.old m.new }
         ensures order { KeepsOrder m.old.line m.new.line }

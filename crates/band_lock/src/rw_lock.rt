@@ -1,5 +1,5 @@
 //! The reader-writer lock.
-ghost use Rattle.std.specs.Prelude.{◌≡◌, ◌-◌, ◌<◌, ◌≤◌, ◌^◌, ◌↔◌, IsTrue, IsSome, IfSome, OnSome, IfNone};
+ghost use Rattle.std.specs.Prelude.{◌≡◌, ◌-◌, ◌<◌, ◌≤◌, ◌^◌, ◌↔◌, IsTrue, IsSome, IfSome, OnSome, IfNone, IsErrOf};
 ghost use Rattle.band_balance.specs.Line.{is_served};
 ghost use Rattle.band_sem.specs.Laws.{KeepsOrder, Leaves};
 ghost use Rattle.band_sem.specs.Permit.{new_permit};
@@ -252,9 +252,11 @@ impl ReadRequest {
         steps: &mut Steps<L>,
     ) -> Result<Poll<ReadAccess>, PollError>
         requires number { self.old.of ≡ l.old.shares.number }
-        requires own { IsOwn self.old.stage self.old.size l.old.shares.line }
+        requires own { IsOwn self.old.stage self.old.size l.old.shares }
         ensures one { self.old.size ≡ 1 }
         ensures polls { Polls self.old waker.0 l.old.shares result self.new l.new.shares }
+        // Its semaphore is never closed.
+        ensures never_closed { IsErrOf result PollError.Closed → ⊥ }
         ensures max { l.new.max ≡ l.old.max }
         ensures order { KeepsOrder l.old.shares.line l.new.shares.line }
         ensures lawful { IsLawful l.new.shares }
@@ -270,7 +272,7 @@ impl ReadRequest {
     /// Ends the request. One that waits leaves the line, and one that was granted gives its share back. Then the line settles.
     pub fn cancel<L: Ledger>(self, l: &mut RwLockState, steps: &mut Steps<L>)
         requires number { self.of ≡ l.old.shares.number }
-        requires own { IsOwn self.stage self.size l.old.shares.line }
+        requires own { IsOwn self.stage self.size l.old.shares }
         ensures state { IsLikeLock (on_shares (cancelled self.stage) l.old) l.new }
         ensures others { Leaves self.stage l.old.shares l.new.shares }
         ensures order { KeepsOrder l.old.shares.line l.new.shares.line }
@@ -305,9 +307,11 @@ impl WriteRequest {
         steps: &mut Steps<L>,
     ) -> Result<Poll<WriteAccess>, PollError>
         requires number { self.old.of ≡ l.old.shares.number }
-        requires own { IsOwn self.old.stage self.old.size l.old.shares.line }
+        requires own { IsOwn self.old.stage self.old.size l.old.shares }
         requires all { self.old.size ≡ l.old.max }
         ensures polls { Polls self.old waker.0 l.old.shares result self.new l.new.shares }
+        // Its semaphore is never closed.
+        ensures never_closed { IsErrOf result PollError.Closed → ⊥ }
         ensures max { l.new.max ≡ l.old.max }
         ensures order { KeepsOrder l.old.shares.line l.new.shares.line }
         ensures lawful { IsLawful l.new.shares }
@@ -323,7 +327,7 @@ impl WriteRequest {
     /// Ends the request. One that waits leaves the line, and one that was granted gives all shares back. Then the line settles.
     pub fn cancel<L: Ledger>(self, l: &mut RwLockState, steps: &mut Steps<L>)
         requires number { self.of ≡ l.old.shares.number }
-        requires own { IsOwn self.stage self.size l.old.shares.line }
+        requires own { IsOwn self.stage self.size l.old.shares }
         ensures state { IsLikeLock (on_shares (cancelled self.stage) l.old) l.new }
         ensures others { Leaves self.stage l.old.shares l.new.shares }
         ensures order { KeepsOrder l.old.shares.line l.new.shares.line }

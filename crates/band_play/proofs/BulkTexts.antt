@@ -1,6 +1,6 @@
 -- How the script of a bulk grows by the lines of a request.
-use Rattle.std.proofs.Common.{◌≡◌, ℕ, zero, suc, ◌+◌, ◌-◌, ◌*◌, ◌≤◌, List, [], ◌∷◌, ◌++◌, refl, sym, ap, ◌∙◌, append_assoc, arith}
-use Rattle.std.specs.Prelude.{codes, decimal, filter, flat_map, map}
+use Rattle.std.proofs.Common.{◌≡◌, ℕ, zero, suc, ◌+◌, ◌-◌, ◌*◌, ◌%◌, ◌≤◌, List, [], ◌∷◌, ◌++◌, refl, sym, ap, ◌∙◌, append_assoc, arith}
+use Rattle.std.specs.Prelude.{codes, decimal, filter, map}
 use Rattle.std.specs.Fmt.{digits}
 use Rattle.std.specs.List.{range_with_len}
 use Rattle.std.proofs.lemmas.Grind.{flat_map-append}
@@ -53,6 +53,10 @@ ends calls before now i n last is = is ∙ ap (λ k. before ++ script_of (calls 
 pub zero_is : decimal 0 ≡ 48 ∷ []
 unfolding digits
 zero_is = refl
+
+-- how many one asks for, from what is left of its number by 3
+pub told_size : (i rest : ℕ) → i % 3 ≡ rest → codes " s " ++ decimal (1 + rest) ++ codes " " ≡ codes " s " ++ decimal (1 + i % 3) ++ codes " "
+told_size i rest is = ap (λ k. codes " s " ++ decimal (1 + k) ++ codes " ") (sym is)
 
 pub whole : (n : ℕ) (begin asked dropped released all : List ℕ) → begin ≡ codes "sem s 0" ++ 10 ∷ [] → asked ≡ begin ++ script_of (asks (numbers_to n))
     → dropped ≡ asked ++ script_of (drops (numbers_to n)) → released ≡ dropped ++ script_of (Release (codes "s") (2 * n) ∷ []) → all ≡ released ++ script_of (polls (numbers_to n))

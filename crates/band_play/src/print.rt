@@ -26,6 +26,7 @@ pub(crate) fn push_reply(out: &mut String, reply: &Reply) -> Result<(), AllocErr
             held,
         } => push_figures(out, *available, *free, *waiting, *granted, *held),
         Reply::Refused(refusal) => writeln!(out, "refused {}", word_of(*refusal)),
+        Reply::Closed => out.push_str("closed\n"),
     }
 }
 
@@ -78,5 +79,6 @@ fn word_of(refusal: Refusal) -> &'static str
         Refusal::Other => "other",
         Refusal::Overflow => "overflow",
         Refusal::Debt => "debt",
+        Refusal::Closed => "closed",
     }
 }

@@ -19,6 +19,7 @@ fn prints_each_reply(rt: HostRuntime) -> Result<(), Fail> {
         (Reply::Ready, "ready\n"),
         (Reply::Pending, "pending\n"),
         (Reply::Nothing, "none\n"),
+        (Reply::Closed, "closed\n"),
         (Reply::Drained(30), "drained 30\n"),
         (
             figures,
@@ -32,6 +33,7 @@ fn prints_each_reply(rt: HostRuntime) -> Result<(), Fail> {
         (Reply::Refused(Refusal::Other), "refused other\n"),
         (Reply::Refused(Refusal::Overflow), "refused overflow\n"),
         (Reply::Refused(Refusal::Debt), "refused debt\n"),
+        (Reply::Refused(Refusal::Closed), "refused closed\n"),
     ];
     for (reply, line) in table {
         let mut text = String::new(rt.alloc());

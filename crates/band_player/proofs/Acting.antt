@@ -4,7 +4,7 @@ use Rattle.std.specs.List.{slice_get, slice_set}
 use Rattle.std.specs.Str.{bytes_eq}
 use Rattle.std.proofs.lemmas.List.{length-set}
 use Rattle.std.proofs.lemmas.Option.{none-some, same_Some, slice_get_within}
-use Rattle.band_balance.specs.Line.{Line, AreAlike, rename}
+use Rattle.band_balance.specs.Line.{Entry, Line, AreAlike, rename}
 use Rattle.band_balance.specs.Object.{Object, Answer}
 use Rattle.band_balance.specs.Rule.{Rule, act}
 use Rattle.band_balance.proofs.Distinct.{named_at, named_at_itself, named_at_other}
@@ -18,7 +18,7 @@ use Rattle.band_rules.proofs.Runs.{in_order-step}
 use Rattle.band_rules.proofs.States.{with_object_here, with_object_later}
 use Rattle.band_script.specs.declared.call.Call.{Call}
 use Rattle.band_player.specs.Names.{Updated}
-use Rattle.band_player.specs.Objects.{ObjectState}
+use Rattle.band_player.specs.Objects.{ObjectState, asked_in}
 use Rattle.band_player.specs.Table.{unseen, shown, HasSlotAt, StandsAt, StandsUnder}
 use Rattle.band_player.specs.Thing.{Thing, place_at}
 use Rattle.band_player.specs.Thing as things
@@ -61,12 +61,12 @@ module _ (place other : ℕ) (apart : other ≡ place → ⊥) where
   shown_there name same = refl
   shown_there name (here {before} {after} was is) = shown_of_other name before was ∙ sym (shown_of_other name after is)
 
-  pub slot_there : (tags : ℕ → Tag) (line : Line ℕ) (name : List ℕ) {before after : Option Thing} → Touched place before after → HasSlotAt tags other line name before
-      → HasSlotAt tags other line name after
-  slot_there tags line name same has = has
-  slot_there tags line name (here {before} {after} was is) has = go after is
+  pub slot_there : (tags : ℕ → Tag) (asks : List (Entry ℕ)) (name : List ℕ) {before after : Option Thing} → Touched place before after → HasSlotAt tags other asks name before
+      → HasSlotAt tags other asks name after
+  slot_there tags asks name same has = has
+  slot_there tags asks name (here {before} {after} was is) has = go after is
     where
-      go : (thing : Option Thing) → IsOf place thing → HasSlotAt tags other line name thing
+      go : (thing : Option Thing) → IsOf place thing → HasSlotAt tags other asks name thing
       go (Some (things.Request at request)) is = λ k. absurd (apart (sym k ∙ is))
       go thing is = tt
 
@@ -86,12 +86,14 @@ updated_same table table' it now updated is name =
 -- another table that shows the same of an object
 pub stands_by : (tags : ℕ → Tag) (table table' : List ℕ → Option Thing) (place : ℕ) (object : ObjectState) (named : Named)
     → ((name : List ℕ) → shown place name (table name) ≡ shown place name (table' name))
-    → ((name : List ℕ) → HasSlotAt tags place object.line name (table name) → HasSlotAt tags place object.line name (table' name)) → StandsAt tags table place object named
+    → ((name : List ℕ) → HasSlotAt tags place (asked_in object) name (table name) → HasSlotAt tags place (asked_in object) name (table' name)) → StandsAt tags table place object named
     → StandsAt tags table' place object named
 stands_by tags table table' place object named shows slots at = record {
   kind = at.kind;
   number = at.number;
   line = at.line;
+  closed = at.closed;
+  ended = at.ended;
   held = at.held;
   held_once = at.held_once;
   steady = at.steady;
@@ -107,7 +109,7 @@ stands_same tags table table' kept state names stands = record {
   size = stands.size;
   each = λ place object named kept_there there.
       stands_by (tags place) table table' place object named (λ name. ap (shown place name) (sym (names name)))
-      (λ name has. subst (HasSlotAt (tags place) place object.line name) (sym (names name)) has) (stands.each place object named kept_there there);
+      (λ name has. subst (HasSlotAt (tags place) place (asked_in object) name) (sym (names name)) has) (stands.each place object named kept_there there);
   there = λ name thing is. stands.there name thing (sym (names name) ∙ is);
 }
 
@@ -145,7 +147,7 @@ module _ (tags : ℕ → ℕ → Tag) (table : List ℕ → Option Thing) (kept 
   stays_at other apart kept_other another at =
       subst (λ (t : ℕ → Tag). StandsAt t table' other kept_other another) (sym (named_at_other place tags' tags other (ne_eqb place other (λ k. apart (sym k)))))
       (stands_by (tags other) table table' other kept_other another (λ name. shown_there place other apart name (touched name))
-      (λ name has. slot_there place other apart (tags other) kept_other.line name (touched name) has) at)
+      (λ name has. slot_there place other apart (tags other) (asked_in kept_other) name (touched name) has) at)
 
   module _ (left : Object Tag) (at : StandsAt tags' table' place object (record named { object = left })) where
     abbrev after : Named

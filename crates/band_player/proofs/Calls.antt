@@ -5,10 +5,15 @@ use Rattle.std.specs.Str.{bytes_eq}
 use Rattle.std.proofs.lemmas.Bool.{cond-true, cond-false, cond_both, true≢false, le-leb, lt-leb}
 use Rattle.std.proofs.lemmas.List.{length-map}
 use Rattle.std.proofs.lemmas.Option.{same_Some}
+use Rattle.band_base.specs.declared.poll.Poll.{Poll}
+use Rattle.band_base.specs.declared.poll.Poll.TheVariants as polls
+use Rattle.band_base.specs.declared.poll.PollError.{PollError}
+use Rattle.band_base.specs.declared.poll.PollError.TheVariants as errors
+use Rattle.band_sem.specs.Permit.{Permit as Held}
 use Rattle.band_base.specs.declared.refusal.Refusal.{Refusal}
 use Rattle.band_base.specs.declared.refusal.Refusal.TheVariants as refusals
 use Rattle.band_balance.specs.Line.{Line, AreAlike, requests, total, rename, renamed_waiting, u64_max, is_served, take_permits, give_back, drained, overflows, owes_too_much, available}
-use Rattle.band_balance.specs.Object.{Object, Kind, Mode, Permit, Read, Write, Answer, Done, Ready, Pending, Nothing, Drained, Figures, Turn, is_of, size_of, tag, turn, hold, size_in}
+use Rattle.band_balance.specs.Object.{Object, Kind, Mode, Permit, Read, Write, Answer, Done, Ready, Pending, Nothing, Closed, Drained, Figures, Turn, is_of, size_of, tag, turn, hold, size_in}
 use Rattle.band_balance.specs.Rule.{Rule, Fits, act, has_name as is_tag}
 use Rattle.band_balance.specs.Rule as rules
 use Rattle.band_balance.proofs.Alike.{with_granted, total-alike, take_permits-alike}
@@ -25,12 +30,12 @@ use Rattle.band_rules.specs.State.{State, Named, Tag, Standing, AnObject, standi
 use Rattle.band_rules.specs.Step.{reply_of, step}
 use Rattle.band_script.specs.declared.call.Call.{Call}
 use Rattle.band_script.specs.declared.call.Call.TheVariants as calls
-use Rattle.band_sem.specs.Request.{NotPolled, Joined}
-use Rattle.band_sem.specs.Semaphore.{taken, given_back, released, reduced, joined, received, forgotten, with_waker, without_request, cancelled, LaterPoll, Polls, PollsAt}
+use Rattle.band_sem.specs.Request.{Request as Asked, NotPolled, Joined}
+use Rattle.band_sem.specs.Semaphore.{taken, given_back, released, reduced, joined, received, forgotten, with_waker, without_request, told, shut, finished, cancelled, LaterPoll, Polls, PollsAt}
 use Rattle.band_player.specs.Kept.{wakes_left, StandsFor, FollowsFrom, DidWork}
-use Rattle.band_player.specs.Moves.{object_place, offering, held_as, mode_of, size_for, ask_call, try_call, AsksName, SplitsTo, Grows, Changes, FitsHolding, mergeable, mergeable_held, dropped, downgraded, PollsRequest, PollsToken, answer_of, left_of, mode_in, reply_for}
+use Rattle.band_player.specs.Moves.{object_place, offering, held_as, mode_of, size_for, ask_call, try_call, AsksName, SplitsTo, Grows, Changes, FitsHolding, mergeable, mergeable_held, dropped, downgraded, PollsRequest, PollsToken, answer_of, left_of, mode_in, IsReply, left_by}
 use Rattle.band_player.specs.Names.{thing_at, Updated, is_object}
-use Rattle.band_player.specs.Objects.{ObjectState, RequestState, HoldingState, IsLikeObject, IsSteady, of_kind, shares_of, on_semaphore, in_mode, asked_of, held_in}
+use Rattle.band_player.specs.Objects.{ObjectState, RequestState, HoldingState, IsLikeObject, IsSteady, of_kind, shares_of, on_semaphore, in_mode, asked_in, asked_of, held_in, permit_in}
 use Rattle.band_player.specs.Table.{HasSlot}
 use Rattle.band_player.specs.Thing.{Thing, place_at}
 use Rattle.band_player.specs.Thing as things
@@ -42,7 +47,7 @@ use Rattle.band_player.specs.declared.table.Table.{Table}
 use Rattle.band_player.proofs.Acting.{IsOf, Touched, same, touched_one, touched_twice, updated_same}
 use Rattle.band_player.proofs.Fitting.{fits_at}
 use Rattle.band_player.proofs.Follow.{Target, target, absent, standing_as, refused, shows, acted, works}
-use Rattle.band_player.proofs.Landing.{line_is, line_as, given_back_is, steady_before, lands_like, takes, joining, joins, stays, slot_of, receives, rewakes, ends, lets_go, held_there, splits, merges, lowers}
+use Rattle.band_player.proofs.Landing.{line_is, line_as, given_back_is, steady_before, lands_like, takes, joining, joins, stays, slot_of, receives, rewakes, hears, shuts, ends, lets_go, held_there, splits, merges, lowers}
 use Rattle.band_player.proofs.Lists.{set_itself}
 use Rattle.band_player.proofs.Lookups.{plain_found, object_refused, held_refused, FoundAs, place_held, refuses, held_found, apart_by_place, is_live, taken_name, held_by, Live, live, standing_live, object_there, unused}
 use Rattle.band_player.proofs.Named.{can_merge, two_names, held_from, object_from, object_is, same_holding}
@@ -71,7 +76,7 @@ module _ (old : Table) (none : wakes_left old ≡ []) (state : State) (stands : 
   kept = old.objects.items
 
   module _ (want : Want) (made of : List ℕ) (place : ℕ) (is : offering (mode_of want) kept (object_place (table of)) ≡ Ok place) (free : table made ≡ None)
-      (object : ObjectState) (there : slice_get kept place ≡ Some object) where
+      (object : ObjectState) (there : slice_get kept place ≡ Some object) (is_open : object.closed ≡ false) where
     abbrev it : Target old none state stands place object
     it = target old none state stands place object there
 
@@ -83,8 +88,9 @@ module _ (old : Table) (none : wakes_left old ≡ []) (state : State) (stands : 
 
     named_act : (rule : ℕ → Rule (List ℕ)) (n : ℕ) → n ≡ size_for want object.kind → naming (mode_of want) (size_for want) made of rule state ≡ Act it.named (rule n)
     named_act rule n size =
-        ap₂ (λ one unused. one >>= λ named. unused >>= λ found. Act named (rule (size_for want named.object.kind)))
+        ap₂ (λ one unused. one >>= λ named. unused >>= λ found. refuse_if named.object.closed refusals.Closed >>= λ open_one. Act named (rule (size_for want named.object.kind)))
         (object_there old none state stands (mode_of want) of place it.named is it.there) (unused old none state stands made free)
+        ∙ ap (λ c. refuse_if c refusals.Closed >>= λ open_one. Act it.named (rule (size_for want it.named.object.kind))) (it.spot.at.closed ∙ is_open)
         ∙ ap (λ m. Act it.named (rule m)) (ap (size_for want) it.spot.at.kind ∙ sym size)
 
     asks : (waker : ℕ) (n : ℕ) → n ≡ size_for want object.kind → plan (ask_call want made of waker) state ≡ Act it.named (rules.Ask (tag (mode_of want) made) n waker)
@@ -126,21 +132,30 @@ module _ (old : Table) (none : wakes_left old ≡ []) (state : State) (stands : 
         → PollsRequest (record { mode = mode_of want; of = place; size = n; stage = NotPolled }) waker object left reply object'
         → Updated table table' made (Some (thing_of left)) → new.objects.items ≡ slice_set kept place object' → new.last ≡ place → FollowsFrom (ask_call want made of waker) reply new state
     asked waker n reply (tokens.Holding holding) object' size p updated items last =
-        had n object' (things.Holding holding) (ask_call want made of waker) (rules.Ask (tag (mode_of want) made) n waker) Ready reply (asks waker n size) (cond-true _ _ _ (served_too n ∙ p.polled.0))
-        (ap₂ of_kind p.kind p.polled.2) p.lawful (ap things.Holding (ap₂ held_in p.mode p.polled.1)) updated items last p.replied
-    asked waker n reply (tokens.Request left) object' size p updated items last =
-        let entered = p.polled.1 in
-        let slot = entered.0 in
-        let object_is : object' ≡ on_semaphore (joined slot n waker) object = ap₂ of_kind p.kind entered.2 in
-        let left_is : left ≡ record { mode = mode_of want; of = place; size = n; stage = Joined slot } = ap₂ in_mode p.mode entered.3 in
-        let updated_as = subst (λ (r : RequestState). Updated table table' made (Some (things.Request r.of r))) left_is updated in
-        let steady = subst (λ (o : ObjectState). IsSteady o) object_is p.lawful in
-        acted old none state stands (ask_call want made of waker) (rules.Ask (tag (mode_of want) made) n waker) Pending reply new place object (on_semaphore (joined slot n waker) object)
-        (joining it.spot (tag (mode_of want) made) n waker slot table' free entered.1 updated_as steady)
-        it there (asks waker n size)
-        (joins it.spot (tag (mode_of want) made) n waker slot table' free entered.1 updated_as steady (served_too n ∙ p.polled.0))
-        (touched_one place table table' made _ updated_as (subst (IsOf place) (sym free) tt) refl)
-        (items ∙ ap (slice_set kept place) object_is) last p.replied
+        had n object' (things.Holding holding) (ask_call want made of waker) (rules.Ask (tag (mode_of want) made) n waker) Ready reply (asks waker n size) (cond-true _ _ _ (served_too n ∙ p.polled.1))
+        (ap₂ of_kind p.kind p.polled.3) p.lawful (ap things.Holding (ap₂ held_in p.mode p.polled.2)) updated items last p.replied
+    asked waker n reply (tokens.Request left) object' size p updated items last = by_reply reply refl p.polled p.replied
+      where
+        waits : Polls (record { of = place; size = n; stage = NotPolled }) waker (shares_of object) (Ok polls.Pending) (asked_of left) (shares_of object') → reply ≡ replies.Pending
+            → FollowsFrom (ask_call want made of waker) reply new state
+        waits polled replied =
+            let entered = polled.2 in
+            let slot = entered.0 in
+            let object_is : object' ≡ on_semaphore (joined slot n waker) object = ap₂ of_kind p.kind entered.2 in
+            let left_is : left ≡ record { mode = mode_of want; of = place; size = n; stage = Joined slot } = ap₂ in_mode p.mode entered.3 in
+            let updated_as = subst (λ (r : RequestState). Updated table table' made (Some (things.Request r.of r))) left_is updated in
+            let steady = subst (λ (o : ObjectState). IsSteady o) object_is p.lawful in
+            acted old none state stands (ask_call want made of waker) (rules.Ask (tag (mode_of want) made) n waker) Pending reply new place object (on_semaphore (joined slot n waker) object)
+            (joining it.spot (tag (mode_of want) made) n waker slot table' free is_open entered.1 updated_as steady)
+            it there (asks waker n size)
+            (joins it.spot (tag (mode_of want) made) n waker slot table' free is_open entered.1 updated_as steady (served_too n ∙ polled.1))
+            (touched_one place table table' made _ updated_as (subst (IsOf place) (sym free) tt) refl)
+            (items ∙ ap (slice_set kept place) object_is) last replied
+
+        by_reply : (said : Reply) → reply ≡ said → Polls (record { of = place; size = n; stage = NotPolled }) waker (shares_of object) (answer_of (tokens.Request left) said) (asked_of left) (shares_of object')
+            → IsReply (tokens.Request left) said → FollowsFrom (ask_call want made of waker) reply new state
+        by_reply replies.Closed is polled replied = let never : true ≡ false = sym polled.0 ∙ is_open in cc
+        by_reply said is polled replied = waits polled (is ∙ replied)
 
   -- the name is taken
   pub name_taken : (names : (n : List ℕ) → table' n ≡ table n) (items : new.objects.items ≡ kept) (mode : Mode) (made of : List ℕ) (place : ℕ)
@@ -149,68 +164,98 @@ module _ (old : Table) (none : wakes_left old ≡ []) (state : State) (stands : 
   name_taken names items mode made of place is object there live_name call size rule planned =
       let it = target old none state stands place object there in
       refused old none state stands new names items call refusals.Taken
-      (planned ∙ ap₂ (λ one unused. one >>= λ named. unused >>= λ found. Act named (rule (size named.object.kind)))
+      (planned ∙ ap₂ (λ one unused. one >>= λ named. unused >>= λ found. refuse_if named.object.closed refusals.Closed >>= λ open_one. Act named (rule (size named.object.kind)))
       (object_there old none state stands mode of place it.named is it.there) (taken_name old none state stands made live_name))
+
+  -- the object is closed
+  pub closed_refused : (names : (n : List ℕ) → table' n ≡ table n) (items : new.objects.items ≡ kept) (mode : Mode) (made of : List ℕ) (place : ℕ)
+      → offering mode kept (object_place (table of)) ≡ Ok place → (object : ObjectState) → slice_get kept place ≡ Some object → table made ≡ None → object.closed ≡ true
+      → (call : Call) (size : Kind → ℕ) (rule : ℕ → Rule (List ℕ)) → plan call state ≡ naming mode size made of rule state → FollowsFrom call (replies.Refused refusals.Closed) new state
+  closed_refused names items mode made of place is object there free shut_one call size rule planned =
+      let it = target old none state stands place object there in
+      refused old none state stands new names items call refusals.Closed
+      (planned ∙ ap₂ (λ one unused. one >>= λ named. unused >>= λ found. refuse_if named.object.closed refusals.Closed >>= λ open_one. Act named (rule (size named.object.kind)))
+      (object_there old none state stands mode of place it.named is it.there) (unused old none state stands made free)
+      ∙ ap (λ c. refuse_if c refusals.Closed >>= λ open_one. Act it.named (rule (size it.named.object.kind))) (it.spot.at.closed ∙ shut_one))
 
   -- a new name is asked for
   pub asks_name : (want : Want) (made of : List ℕ) (waker place : ℕ) (reply : Reply) → offering (mode_of want) kept (object_place (table of)) ≡ Ok place → table made ≡ None
-      → (object object' : ObjectState) → slice_get kept place ≡ Some object → object.number ≡ place → AsksName made want waker table table' object object' reply
+      → (object object' : ObjectState) → slice_get kept place ≡ Some object → object.closed ≡ false → object.number ≡ place → AsksName made want waker table table' object object' reply
       → new.objects.items ≡ slice_set kept place object' → new.last ≡ place → FollowsFrom (ask_call want made of waker) reply new state
-  asks_name want made of waker place reply is free object object' there number a items last =
-      asked want made of place is free object there waker (size_for want object.kind) reply a.left object' refl
+  asks_name want made of waker place reply is free object object' there is_open number a items last =
+      asked want made of place is free object there is_open waker (size_for want object.kind) reply a.left object' refl
       (subst (λ k. PollsRequest (record { mode = mode_of want; of = k; size = size_for want object.kind; stage = NotPolled }) waker object a.left reply object') number a.polled)
       a.updated items last
 
   -- A later poll.
   polls_again : (name : List ℕ) (waker : ℕ) (request : RequestState) → table name ≡ Some (things.Request request.of request) → (object : ObjectState) (there : slice_get kept request.of ≡ Some object)
       → (reply : Reply) (left : TokenState) (object' : ObjectState) → PollsRequest request waker object left reply object'
-      → Updated table table' name (Some (thing_of left)) → new.objects.items ≡ slice_set kept request.of object' → new.last ≡ request.of → FollowsFrom (calls.Poll name waker) reply new state
-  polls_again name waker request is object there reply left object' p updated items last = go left p.polled p.mode p.replied updated
+      → Updated table table' name (left_by reply (Some (thing_of left))) → new.objects.items ≡ slice_set kept request.of object' → new.last ≡ request.of
+      → FollowsFrom (calls.Poll name waker) reply new state
+  polls_again name waker request is object there reply left object' p updated items last = go left reply refl p.polled p.mode p.replied updated
     where
       it : Target old none state stands request.of object
       it = target old none state stands request.of object there
 
-      has : HasSlot (stands.tags request.of) request.of object.line name request
+      has : HasSlot (stands.tags request.of) request.of (asked_in object) name request
       has = slot_of it.spot name request is
 
       planned : plan (calls.Poll name waker) state ≡ Act it.named (rules.Poll name waker)
       planned = ap (λ s. asked_object s >>= λ of. Act of (rules.Poll name waker)) (standing_as old none state stands name (things.Request request.of request) object it is)
 
-      later : (left : TokenState) → Polls (asked_of request) waker (shares_of object) (answer_of left) (left_of request left) (shares_of object')
-          → LaterPoll has.slot (asked_of request) waker (shares_of object) (answer_of left) (left_of request left) (shares_of object')
-      later left polled = subst (λ stage. PollsAt stage (asked_of request) waker (shares_of object) (answer_of left) (left_of request left) (shares_of object')) has.joined polled
+      later : (answer : Result (Poll Held) PollError) (asked_left : Asked) → Polls (asked_of request) waker (shares_of object) answer asked_left (shares_of object')
+          → LaterPoll has.slot (asked_of request) waker (shares_of object) answer asked_left (shares_of object')
+      later answer asked_left polled = subst (λ stage. PollsAt stage (asked_of request) waker (shares_of object) answer asked_left (shares_of object')) has.joined polled
 
-      go : (left : TokenState) → Polls (asked_of request) waker (shares_of object) (answer_of left) (left_of request left) (shares_of object') → mode_in left ≡ request.mode → reply ≡ reply_for left
-          → Updated table table' name (Some (thing_of left)) → FollowsFrom (calls.Poll name waker) reply new state
-      go (tokens.Holding holding) polled mode replied updated =
-          let l = later (tokens.Holding holding) polled in
-          let object_is : object' ≡ on_semaphore (received has.slot request.size) object = ap₂ of_kind p.kind l.2 in
-          let holding_is : holding ≡ record { mode = request.mode; of = request.of; count = request.size } = ap₂ held_in mode l.1 in
-          acted old none state stands (calls.Poll name waker) (rules.Poll name waker) Ready reply new request.of object (on_semaphore (received has.slot request.size) object)
-          (stands.tags request.of) it there planned
-          (receives it.spot name request is table' waker l.0
-          (subst (λ h. Updated table table' name (Some (things.Holding h))) holding_is updated) (subst (λ (o : ObjectState). IsSteady o) object_is p.lawful))
-          (touched_one request.of table table' name (Some (things.Holding holding)) updated (subst (IsOf request.of) (sym is) refl) (ap (λ (h : HoldingState). h.of) holding_is))
-          (items ∙ ap (slice_set kept request.of) object_is) last replied
-      go (tokens.Request left) polled mode replied updated =
-          let l = later (tokens.Request left) polled in
-          let object_is : object' ≡ on_semaphore (with_waker has.slot waker) object = ap₂ of_kind p.kind l.1 in
-          let left_is : left ≡ request = ap₂ in_mode mode l.2 in
+      waits : (left : RequestState) → Polls (asked_of request) waker (shares_of object) (Ok polls.Pending) (asked_of left) (shares_of object') → left.mode ≡ request.mode → reply ≡ replies.Pending
+          → Updated table table' name (Some (things.Request left.of left)) → FollowsFrom (calls.Poll name waker) reply new state
+      waits left polled mode replied updated =
+          let l = later (Ok polls.Pending) (asked_of left) polled in
+          let object_is : object' ≡ on_semaphore (with_waker has.slot waker) object = ap₂ of_kind p.kind l.2 in
+          let left_is : left ≡ request = ap₂ in_mode mode l.3 in
           acted old none state stands (calls.Poll name waker) (rules.Poll name waker) Pending reply new request.of object (on_semaphore (with_waker has.slot waker) object)
           (stands.tags request.of) it there planned
-          (rewakes it.spot name request is table' waker l.0
+          (rewakes it.spot name request is table' waker l.0 l.1
           (subst (λ (r : RequestState). Updated table table' name (Some (things.Request r.of r))) left_is updated) (subst (λ (o : ObjectState). IsSteady o) object_is p.lawful))
           (touched_one request.of table table' name (Some (things.Request left.of left)) updated (subst (IsOf request.of) (sym is) refl) (ap (λ (r : RequestState). r.of) left_is))
           (items ∙ ap (slice_set kept request.of) object_is) last replied
 
+      hears_of_it : (left : RequestState) → Polls (asked_of request) waker (shares_of object) (Err errors.Closed) (asked_of left) (shares_of object') → reply ≡ replies.Closed
+          → Updated table table' name None → FollowsFrom (calls.Poll name waker) reply new state
+      hears_of_it left polled replied updated =
+          let l = later (Err errors.Closed) (asked_of left) polled in
+          let object_is : object' ≡ on_semaphore (told has.slot) object = ap₂ of_kind p.kind l.1 in
+          acted old none state stands (calls.Poll name waker) (rules.Poll name waker) Closed reply new request.of object (on_semaphore (told has.slot) object)
+          (stands.tags request.of) it there planned
+          (hears it.spot name request is table' waker l.0 updated (subst (λ (o : ObjectState). IsSteady o) object_is p.lawful))
+          (touched_one request.of table table' name None updated (subst (IsOf request.of) (sym is) refl) tt)
+          (items ∙ ap (slice_set kept request.of) object_is) last replied
+
+      go : (left : TokenState) (said : Reply) → reply ≡ said → Polls (asked_of request) waker (shares_of object) (answer_of left said) (left_of request left) (shares_of object')
+          → mode_in left ≡ request.mode → IsReply left said → Updated table table' name (left_by said (Some (thing_of left))) → FollowsFrom (calls.Poll name waker) reply new state
+      go (tokens.Holding holding) replies.Ready said polled mode replied updated =
+          let l = later (Ok (polls.Ready (permit_in holding))) (finished (asked_of request)) polled in
+          let object_is : object' ≡ on_semaphore (received has.slot request.size) object = ap₂ of_kind p.kind l.3 in
+          let holding_is : holding ≡ record { mode = request.mode; of = request.of; count = request.size } = ap₂ held_in mode l.2 in
+          acted old none state stands (calls.Poll name waker) (rules.Poll name waker) Ready reply new request.of object (on_semaphore (received has.slot request.size) object)
+          (stands.tags request.of) it there planned
+          (receives it.spot name request is table' waker l.0 l.1
+          (subst (λ h. Updated table table' name (Some (things.Holding h))) holding_is updated) (subst (λ (o : ObjectState). IsSteady o) object_is p.lawful))
+          (touched_one request.of table table' name (Some (things.Holding holding)) updated (subst (IsOf request.of) (sym is) refl) (ap (λ (h : HoldingState). h.of) holding_is))
+          (items ∙ ap (slice_set kept request.of) object_is) last said
+      go (tokens.Holding holding) other said polled mode replied updated = cc
+      go (tokens.Request left) replies.Closed said polled mode replied updated = hears_of_it left polled said updated
+      go (tokens.Request left) replies.Pending said polled mode replied updated = waits left polled mode said updated
+      go (tokens.Request left) other said polled mode replied updated = cc
+
   pub polls_token : (name : List ℕ) (waker : ℕ) (reply : Reply) (found left : TokenState) (object object' : ObjectState) → table name ≡ Some (thing_of found)
-      → slice_get kept (place_at (thing_of found)) ≡ Some object → PollsToken found waker object left reply object' → Updated table table' name (Some (thing_of left))
+      → slice_get kept (place_at (thing_of found)) ≡ Some object → PollsToken found waker object left reply object' → Updated table table' name (left_by reply (Some (thing_of left)))
       → new.objects.items ≡ slice_set kept (place_at (thing_of found)) object' → new.last ≡ place_at (thing_of found) → FollowsFrom (calls.Poll name waker) reply new state
   polls_token name waker reply (tokens.Request request) left object object' was there polled updated items last =
       polls_again name waker request was object there reply left object' polled updated items last
   polls_token name waker reply (tokens.Holding holding) left object object' was there (left_is, replied, object_is) updated items last =
       subst (λ r. FollowsFrom (calls.Poll name waker) r new state) (sym replied)
-      (refused old none state stands new (updated_same table table' name (Some (thing_of left)) updated (was ∙ ap (λ t. Some (thing_of t)) (sym left_is)))
+      (refused old none state stands new (updated_same table table' name (Some (thing_of left)) (subst (λ r. Updated table table' name (left_by r (Some (thing_of left)))) replied updated) (was ∙ ap (λ t. Some (thing_of t)) (sym left_is)))
       (items ∙ ap (slice_set kept holding.of) object_is ∙ set_itself kept holding.of object there) (calls.Poll name waker) refusals.Finished
       (ap (λ s. asked_object s >>= λ of. Act of (rules.Poll name waker)) (standing_live old none state stands name (things.Holding holding) was)))
 
@@ -248,7 +293,7 @@ module _ (old : Table) (none : wakes_left old ≡ []) (state : State) (stands : 
       (give_back holding.count it.named.object.line)
       (ap (λ o. drop_of o (is_tag bytes_eq name) it.named.object) (held_there it.spot name holding refl is))
       (given_back_is it.spot holding.count)
-      refl refl refl (steady_before given c.after c.like c.lawful)
+      refl refl refl refl refl (steady_before given c.after c.like c.lawful)
       (requests-give_back holding.count it.named.object.line) (requests-give_back holding.count c.before.line) updated))
       (touched_one holding.of table table' name None updated (subst (IsOf holding.of) (sym is) refl) tt) c.set last refl
   drops_name name (tokens.Request request) is c updated last =
@@ -303,12 +348,13 @@ module _ (old : Table) (none : wakes_left old ≡ []) (state : State) (stands : 
 
     does : (call : Call) (rule : Rule (List ℕ)) (answer : Answer) (object' : ObjectState) (line' : Line Tag) → plan call state ≡ Act target_there.named rule
         → act bytes_eq rule object_of_it ≡ turn answer (record object_of_it { line = line' }) → AreAlike (rename (stands.tags place) object'.line) line'
-        → object'.kind ≡ object.kind → object'.number ≡ object.number → object'.held ≡ object.held → IsSteady object' → requests line' ≡ requests object_of_it.line
+        → object'.ended ≡ object.ended → object'.closed ≡ object.closed → object'.kind ≡ object.kind → object'.number ≡ object.number → object'.held ≡ object.held → IsSteady object'
+        → requests line' ≡ requests object_of_it.line
         → requests object'.line ≡ requests object.line
         → new.objects.items ≡ slice_set kept place object' → new.last ≡ place → FollowsFrom call (reply_of answer) new state
-    does call rule answer object' line' planned turns is kind number held steady same_asked same_kept items last =
+    does call rule answer object' line' planned turns is same_gone same_closed kind number held steady same_asked same_kept items last =
         acted old none state stands call rule answer (reply_of answer) new place object object' (stands.tags place) target_there there planned
-        (stays target_there.spot table' names rule answer object' line' turns is kind number held steady same_asked same_kept)
+        (stays target_there.spot table' names rule answer object' line' turns is same_gone same_closed kind number held steady same_asked same_kept)
         (λ n. subst (Touched place (table n)) (sym (names n)) same) items last refl
 
     module _ (is : offering Permit kept (object_place (table of)) ≡ Ok place) where
@@ -332,7 +378,7 @@ module _ (old : Table) (none : wakes_left old ≡ []) (state : State) (stands : 
           acted old none state stands (calls.Release of n) (rules.Release n) Done replies.Done new place object object' (stands.tags place) target_there there
           (plan_release n ∙ ap (λ b. refuse_if b refusals.Overflow >>= λ found. Act target_there.named (rules.Release n)) fits)
           (lands_like given object' like steady target_there.named place (rules.Release n) Done (stands.tags place) table'
-          (stays target_there.spot table' names (rules.Release n) Done given (give_back n object_of_it.line) refl (given_back_is target_there.spot n) refl refl refl
+          (stays target_there.spot table' names (rules.Release n) Done given (give_back n object_of_it.line) refl (given_back_is target_there.spot n) refl refl refl refl refl
           (steady_before given object' like steady) (requests-give_back n object_of_it.line) (requests-give_back n object.line)))
           (λ m. subst (Touched place (table m)) (sym (names m)) same) items last refl
 
@@ -353,7 +399,7 @@ module _ (old : Table) (none : wakes_left old ≡ []) (state : State) (stands : 
           → new.objects.items ≡ slice_set kept place object' → new.last ≡ place → FollowsFrom (calls.Reduce of n) replies.Done new state
       reduces n object' fits object_is steady items last =
           does (calls.Reduce of n) (rules.Reduce n) Done (on_semaphore (reduced n) object) (take_permits n object_of_it.line) (may_reduce n fits) refl
-          (take_permits-alike n (rename (stands.tags place) object.line) object_of_it.line alike) refl refl refl (subst (λ (o : ObjectState). IsSteady o) object_is steady) refl refl
+          (take_permits-alike n (rename (stands.tags place) object.line) object_of_it.line alike) refl refl refl refl refl (subst (λ (o : ObjectState). IsSteady o) object_is steady) refl refl
           (items ∙ ap (slice_set kept place) object_is) last
 
       pub debt_refused : (n : ℕ) → owes_too_much n object.line ≡ true → new.objects.items ≡ kept → FollowsFrom (calls.Reduce of n) (replies.Refused refusals.Debt) new state
@@ -371,8 +417,18 @@ module _ (old : Table) (none : wakes_left old ≡ []) (state : State) (stands : 
           does (calls.Drain of n) (rules.Drain n) (Drained count) (on_semaphore (reduced count) object) (take_permits count object_of_it.line)
           (ap (λ one. one >>= λ named. Act named (rules.Drain n)) for_permits)
           (ap (λ m. turn (Drained m) (record object_of_it { line = take_permits m object_of_it.line })) drained_too)
-          (take_permits-alike count (rename (stands.tags place) object.line) object_of_it.line alike) refl refl refl (subst (λ (o : ObjectState). IsSteady o) object_is steady) refl refl
+          (take_permits-alike count (rename (stands.tags place) object.line) object_of_it.line alike) refl refl refl refl refl (subst (λ (o : ObjectState). IsSteady o) object_is steady) refl refl
           (items ∙ ap (slice_set kept place) object_is) last
+
+      pub closes : (object' : ObjectState) → IsLikeObject (on_semaphore shut object) object' → IsSteady object' → new.objects.items ≡ slice_set kept place object' → new.last ≡ place
+          → FollowsFrom (calls.Close of) replies.Done new state
+      closes object' like steady items last =
+          let shut_one = on_semaphore shut object in
+          acted old none state stands (calls.Close of) rules.Close Done replies.Done new place object object' (stands.tags place) target_there there
+          (ap (λ one. one >>= λ named. Act named rules.Close) for_permits)
+          (lands_like shut_one object' like steady target_there.named place rules.Close Done (stands.tags place) table'
+          (shuts target_there.spot table' names (steady_before shut_one object' like steady)))
+          (λ m. subst (Touched place (table m)) (sym (names m)) same) items last refl
 
     pub figures : object_place (table of) ≡ Ok place → new.objects.items ≡ kept
         → FollowsFrom (calls.Status of) (replies.Figures (available object.line) object.line.free (length object.line.waiting) (total object.line.granted) object.held) new state
@@ -388,13 +444,13 @@ module _ (old : Table) (none : wakes_left old ≡ []) (state : State) (stands : 
         (length-map object.line.waiting (renamed_waiting (stands.tags place))))
 
     -- what is tried for isn't there
-    pub tried_nothing : (want : Want) (made : List ℕ) (is : offering (mode_of want) kept (object_place (table of)) ≡ Ok place) (free : table made ≡ None)
+    pub tried_nothing : (want : Want) (made : List ℕ) (is : offering (mode_of want) kept (object_place (table of)) ≡ Ok place) (free : table made ≡ None) (is_open : object.closed ≡ false)
         → is_served (size_for want object.kind) object.line ≡ false
         → new.objects.items ≡ kept → FollowsFrom (try_call want made of) replies.Nothing new state
-    tried_nothing want made is free waits items =
+    tried_nothing want made is free is_open waits items =
         shows old none state stands new names items (try_call want made of) (rules.Try (tag (mode_of want) made) (size_for want object.kind)) Nothing place object target_there
-        (tries want made of place is free object there (size_for want object.kind) refl)
-        (cond-false _ _ _ (served_too want made of place is free object there (size_for want object.kind) ∙ waits))
+        (tries want made of place is free object there is_open (size_for want object.kind) refl)
+        (cond-false _ _ _ (served_too want made of place is free object there is_open (size_for want object.kind) ∙ waits))
 
   -- What a permit of a name comes to.
   module _ (mode : Mode) (name : List ℕ) (holding : HoldingState) (is : held_as mode (table name) ≡ Ok holding) (object : ObjectState) (there : slice_get kept holding.of ≡ Some object) where
@@ -418,7 +474,7 @@ module _ (old : Table) (none : wakes_left old ≡ []) (state : State) (stands : 
       let was = thing_is Permit name permit is object there in
       acted old none state stands (calls.Forget name) (rules.Forget name) Done replies.Done new permit.of object (on_semaphore (forgotten permit.count) object) (stands.tags permit.of) it there
       (ap (λ one. one >>= λ of. Act of (rules.Forget name)) (lends Permit name permit is object there))
-      (lets_go it.spot name permit refl was (rules.Forget name) table' (on_semaphore (forgotten permit.count) object) it.named.object.line refl (line_is it.spot) refl refl refl
+      (lets_go it.spot name permit refl was (rules.Forget name) table' (on_semaphore (forgotten permit.count) object) it.named.object.line refl (line_is it.spot) refl refl refl refl refl
       (subst (λ (o : ObjectState). IsSteady o) object_is steady) refl refl updated)
       (touched_one permit.of table table' name None updated (subst (IsOf permit.of) (sym was) refl) tt) (items ∙ ap (slice_set kept permit.of) object_is) last refl
 

@@ -5,8 +5,8 @@ use Rattle.std.proofs.Props.{props}
 use Rattle.std.specs.List.{slice_get}
 use Rattle.std.specs.Str.{bytes_eq}
 use Rattle.std.proofs.lemmas.Option.{slice_get_within, slice_get_read}
-use Rattle.band_balance.specs.Line.{requests, u64_max, entry_named, without}
-use Rattle.band_balance.specs.Object.{Kind, Mode, Permit, Lock, tag}
+use Rattle.band_balance.specs.Line.{u64_max, entry_named, without}
+use Rattle.band_balance.specs.Object.{Kind, Mode, Permit, Lock, tag, asked}
 use Rattle.band_balance.specs.Rule.{Fits, has_name as is_tag}
 use Rattle.band_balance.proofs.Held.{names_apart, other_way}
 use Rattle.band_balance.proofs.Requests.{all-found, entry_named-without_other}
@@ -20,7 +20,7 @@ use Rattle.band_player.specs.Kept.{IsSound, Offered, offering_at}
 use Rattle.band_player.specs.Moves.{IsFit, FitsRequest, FitsHolding, IsJoined, IsNumbered, CanGrow, held_as, mergeable}
 use Rattle.band_player.specs.Apart.{at as at_name}
 use Rattle.band_player.specs.Names.{thing_at, Updated}
-use Rattle.band_player.specs.Objects.{ObjectState, RequestState, HoldingState}
+use Rattle.band_player.specs.Objects.{ObjectState, RequestState, HoldingState, asked_in, shares_of}
 use Rattle.band_player.specs.Table.{shown, HasSlotAt, StandsAt, StandsUnder}
 use Rattle.band_player.specs.Thing.{Thing, place_at}
 use Rattle.band_player.specs.Thing as things
@@ -44,7 +44,7 @@ fits_request-prop (Some object) request = at_stage request.stage
     fit : IsProp (Fits object.kind request.mode request.size)
     fit = fits-prop object.kind request.mode request.size
 
-    at_stage : (stage : Stage) → IsProp (IsJoined stage × (request.of ≡ object.number) × IsOwn stage request.size object.line × Fits object.kind request.mode request.size)
+    at_stage : (stage : Stage) → IsProp (IsJoined stage × (request.of ≡ object.number) × IsOwn stage request.size (shares_of object) × Fits object.kind request.mode request.size)
     at_stage (Joined slot) = hlevel (fit, props)
     at_stage stage = hlevel (fit, props)
 
@@ -73,13 +73,13 @@ module _ (tags : ℕ → ℕ → Tag) (table : List ℕ → Option Thing) (kept 
           → table name ≡ Some thing → IsFit kept thing
       go (things.Object place) object there named at sound is = slice_get_within kept place object there
       go (things.Request place request) object there named at sound is =
-          let has = subst (HasSlotAt (tags place) place object.line name) is (at.slots name) refl in
+          let has = subst (HasSlotAt (tags place) place (asked_in object) name) is (at.slots name) refl in
           let seen = ap (λ s. s.request) (at.every name ∙ ap (shown place name) is ∙ shown_here place name (things.Request place request) refl) in
           subst (λ o. FitsRequest o request) (sym there) (
             subst IsJoined (sym has.joined) tt,
             has.of ∙ sym at.number,
-            subst (λ stage. IsOwn stage request.size object.line) (sym has.joined) has.own,
-            subst (λ k. Fits k request.mode request.size) at.kind (all-found _ (is_tag bytes_eq name) (requests named.object.line) _ sound.each_request seen),
+            subst (λ stage. IsOwn stage request.size (shares_of object)) (sym has.joined) has.own,
+            subst (λ k. Fits k request.mode request.size) at.kind (all-found _ (is_tag bytes_eq name) (asked named.object) _ sound.each_request seen),
           )
       go (things.Holding holding) object there named at sound is =
           let seen = ap (λ s. s.holding) (at.every name ∙ ap (shown holding.of name) is ∙ shown_here holding.of name (things.Holding holding) refl) in

@@ -18,11 +18,12 @@ use Rattle.band_rules.specs.declared.reply.Reply.TheVariants as replies
 use Rattle.band_rules.proofs.Planned.{some_readers, if_unused}
 use Rattle.band_rules.proofs.Runs.{in_order-step}
 use Rattle.band_script.specs.Call.{ForReaders}
-use Rattle.band_sem.specs.Semaphore.{new_state}
+use Rattle.std.proofs.lemmas.List.Sorted.{IsPermutation-refl}
+use Rattle.band_sem.specs.Semaphore.{new_state, asked}
 use Rattle.band_player.specs.Kept.{wakes_of, wakes_left, StandsFor, FollowsFrom, DidWork}
 use Rattle.band_player.specs.Moves.{kind_made, count_made, make_call}
 use Rattle.band_player.specs.Names.{thing_at, Updated}
-use Rattle.band_player.specs.Objects.{ObjectState, IsSteady, of_kind}
+use Rattle.band_player.specs.Objects.{ObjectState, IsSteady, of_kind, asked_in}
 use Rattle.band_player.specs.Table.{unseen, shown, HasSlotAt, StandsAt, StandsUnder}
 use Rattle.band_player.specs.Thing.{Thing}
 use Rattle.band_player.specs.Thing as things
@@ -65,10 +66,10 @@ module _ (new : New) (made : List ℕ) where
 
   new_stands : (tags : ℕ → Tag) (table : List ℕ → Option Thing) (place : ℕ) → IsSteady (of_kind (kind_made new) (new_state place (count_made new)))
       → ((name : List ℕ) → record unseen { named = bytes_eq name made } ≡ shown place name (table name))
-      → ((name : List ℕ) → HasSlotAt tags place (new_state place (count_made new)).line name (table name))
+      → ((name : List ℕ) → HasSlotAt tags place (asked (new_state place (count_made new))) name (table name))
       → StandsAt tags table place (of_kind (kind_made new) (new_state place (count_made new))) new_named
   new_stands tags table place steady every slots =
-      record { kind = refl; number = refl; line = alike_itself (open_line _); held = refl; held_once = tt; steady = steady; every = every; slots = slots }
+      record { kind = refl; number = refl; line = alike_itself (open_line _); closed = refl; ended = IsPermutation-refl []; held = refl; held_once = tt; steady = steady; every = every; slots = slots }
 
 -- a name that is taken
 pub make_taken : (old : Table) (none : wakes_left old ≡ []) (state : State) (stands : StandsFor old state) (new : New) (made : List ℕ) → IsSome (thing_at old.names made)
@@ -130,10 +131,10 @@ module _ (old : Table) (none : wakes_left old ≡ []) (state : State) (stands : 
         (λ h. ap (λ b. record unseen { named = b }) (other_way bytes_eq bytes_told made name h) ∙ sym (nowhere name) ∙ ap (shown place name) (sym (updated.others name h))))
         (λ name.
         by_bool (bytes_eq made name)
-        (λ h. subst (HasSlotAt (stands.tags place) place (new_state place (count_made new)).line name) (sym (updated.here name h)) tt)
-        (λ h. subst (HasSlotAt (stands.tags place) place (new_state place (count_made new)).line name) (sym (updated.others name h)) (no_slot name (table name) refl))))
+        (λ h. subst (HasSlotAt (stands.tags place) place (asked (new_state place (count_made new))) name) (sym (updated.here name h)) tt)
+        (λ h. subst (HasSlotAt (stands.tags place) place (asked (new_state place (count_made new))) name) (sym (updated.others name h)) (no_slot name (table name) refl))))
       where
-        no_slot : (name : List ℕ) (o : Option Thing) → table name ≡ o → HasSlotAt (stands.tags place) place (new_state place (count_made new)).line name o
+        no_slot : (name : List ℕ) (o : Option Thing) → table name ≡ o → HasSlotAt (stands.tags place) place (asked (new_state place (count_made new))) name o
         no_slot name (Some (things.Request other request)) is = λ here. absurd (omega (arith, stands.under.there name (things.Request other request) is))
         no_slot name thing is = tt
 
@@ -148,7 +149,7 @@ module _ (old : Table) (none : wakes_left old ≡ []) (state : State) (stands : 
             let within = slice_get_within kept other kept_other here in
             let apart : other ≡ place → ⊥ = λ k. omega arith in
             stands_by (stands.tags other) table table' other kept_other another (λ name. shown_there place other apart name (touched name))
-            (λ name has. slot_there place other apart (stands.tags other) kept_other.line name (touched name) has) (stands.under.each other kept_other another here there)
+            (λ name has. slot_there place other apart (stands.tags other) (asked_in kept_other) name (touched name) has) (stands.under.each other kept_other another here there)
         go (inl here) (inr last) = absurd (omega (arith, slice_get_within kept other kept_other here, stands.under.size, last.0))
         go (inr last) (inl there) = absurd (omega (arith, slice_get_within state other another there, stands.under.size, last.0))
         go (inr last) (inr end) =

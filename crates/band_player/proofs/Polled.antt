@@ -17,17 +17,19 @@ use Rattle.band_player.specs.Token.{TokenState, Request, Holding, thing_of}
 -- a request that is ready has ended
 pub ends : (stage : Stage) (request : Asked) (waker : ℕ) (old : SemaphoreState) (permit : Held) (left : Asked) (new : SemaphoreState)
     → PollsAt stage request waker old (Ok (polls.Ready permit)) left new → PollsAt stage request waker old (Ok (polls.Ready permit)) (finished request) new
-ends NotPolled request waker old permit left new (served, permit_is, new_is, left_is) = (served, permit_is, new_is, refl)
-ends (Joined slot) request waker old permit left new (there, permit_is, new_is, left_is) = (there, permit_is, new_is, refl)
+ends NotPolled request waker old permit left new (is_open, served, permit_is, new_is, left_is) = (is_open, served, permit_is, new_is, refl)
+ends (Joined slot) request waker old permit left new (live, there, permit_is, new_is, left_is) = (live, there, permit_is, new_is, refl)
 ends Finished request waker old permit left new (result_is, new_is, left_is) = cc
 
--- a poll that fails is a first one, and changes nothing
+-- a poll that fails, but not since it is closed, is a first one, and changes nothing
 pub fails : (stage : Stage) (request : Asked) (waker : ℕ) (old : SemaphoreState) (error : PollError) (left : Asked) (new : SemaphoreState)
-    → IsOpen stage → PollsAt stage request waker old (Err error) left new → (new ≡ old) × (IsJoined stage → ⊥)
-fails NotPolled request waker old errors.NoMemory left new fresh polled = (polled.1, λ joined. joined)
-fails NotPolled request waker old error left new fresh polled = absurd polled
-fails (Joined slot) request waker old error left new fresh polled = absurd polled
-fails Finished request waker old error left new fresh polled = absurd fresh
+    → IsOpen stage → (error ≡ errors.Closed → ⊥) → PollsAt stage request waker old (Err error) left new → (new ≡ old) × (IsJoined stage → ⊥)
+fails NotPolled request waker old errors.NoMemory left new fresh other polled = (polled.2, λ joined. joined)
+fails NotPolled request waker old errors.Closed left new fresh other polled = absurd (other refl)
+fails NotPolled request waker old error left new fresh other polled = absurd polled
+fails (Joined slot) request waker old errors.Closed left new fresh other polled = absurd (other refl)
+fails (Joined slot) request waker old error left new fresh other polled = absurd polled
+fails Finished request waker old error left new fresh other polled = absurd fresh
 
 opens : (stage : Stage) → IsJoined stage → IsOpen stage
 opens NotPolled joined = tt

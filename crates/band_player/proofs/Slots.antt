@@ -8,10 +8,10 @@ use Rattle.band_balance.specs.Laws.{Pairwise}
 use Rattle.band_balance.specs.Line.{Entry, entry_named, without, renamed}
 use Rattle.band_balance.specs.Rule.{has_name as is_tag}
 use Rattle.band_balance.proofs.Distinct.{tests_agree}
-use Rattle.band_balance.proofs.Fronts.{unmapped}
+use Rattle.band_balance.proofs.Fronts.{unmapped, pairwise-cross}
 use Rattle.band_balance.proofs.Held.{by_bool, other_way}
 use Rattle.band_balance.proofs.Orderly.{pairwise-push}
-use Rattle.band_balance.proofs.Requests.{all-found, all-weaker, all-not_named, none-from_all}
+use Rattle.band_balance.proofs.Requests.{all-found, found_is_named, all-weaker, all-not_named, none-from_all}
 use Rattle.band_balance.proofs.Rules.{bytes_told}
 use Rattle.band_rules.specs.State.{Tag}
 use Rattle.band_sem.specs.Semaphore.{is_slot}
@@ -41,6 +41,15 @@ gone_without name (e ∷ es) once =
     ap (entry_named (is_tag bytes_eq name)) (cond-false (bytes_eq name e.name.name) es (e ∷ without (is_tag bytes_eq name) es) h)
     ∙ cond-false (bytes_eq name e.name.name) (Some e) _ h
     ∙ gone_without name es once.1)
+
+-- who has a name in front has it nowhere behind
+pub nowhere_behind : (name : List ℕ) (front back : List (Entry Tag)) → NamedOnce (front ++ back) → (found : Entry Tag) → entry_named (is_tag bytes_eq name) front ≡ Some found
+    → entry_named (is_tag bytes_eq name) back ≡ None
+nowhere_behind name front back once found there =
+    let named = bytes_told.equal name found.name.name (found_is_named (is_tag bytes_eq name) front found there) in
+    none-from_all (is_tag bytes_eq name) back
+    (all-weaker _ (λ (e : Entry Tag). bytes_eq name e.name.name ≡ false)
+    (λ e apart. ap (λ n. bytes_eq n e.name.name) named ∙ all-found _ (is_tag bytes_eq name) front found apart there) back (pairwise-cross _ front back once))
 
 module _ (tags : ℕ → Tag) (slot size : ℕ) (name : List ℕ) (meant : bytes_eq name (tags slot).name ≡ true) where
   abbrev IsOnly : Entry ℕ → Type 0

@@ -152,3 +152,7 @@ module _ (names : Names) (k : List ℕ) where
 
     pub apart_filled : (token left : TokenState) → at names.tokens k ≡ Some token → Sets names.tokens tokens k (Some left) → AreApart names.objects tokens
     apart_filled token left was sets = apart_set (Some left) (no_object token was) sets
+
+-- a name changes twice
+pub updated_twice : {table mid table' : List ℕ → Option Thing} {it : List ℕ} {first second : Option Thing} → Updated table mid it first → Updated mid table' it second → Updated table table' it second
+updated_twice first second = record { here = second.here; others = λ other apart. second.others other apart ∙ first.others other apart }

@@ -1,14 +1,15 @@
 -- A waker that is taken changes nothing else.
-use Rattle.std.proofs.Common.{◌≡◌, ℕ, ◌<◌, List, Option, Some, None, sym, ap, ◌∙◌, subst}
+use Rattle.std.proofs.Common.{◌≡◌, ℕ, ◌<◌, List, ◌++◌, map, Option, Some, None, sym, ap, ap₂, ◌∙◌, subst}
+use Rattle.std.specs.List.Sorted.{IsPermutation}
 use Rattle.std.specs.List.{slice_get, slice_set}
 use Rattle.std.proofs.lemmas.List.{length-set}
-use Rattle.band_balance.specs.Line.{Line, AreAlike, entry_named, requests, rename}
+use Rattle.band_balance.specs.Line.{Entry, Line, AreAlike, entry_named, requests, rename, renamed}
 use Rattle.band_base.specs.declared.waker.Waker.{Waker}
 use Rattle.band_rules.specs.State.{State, Named}
 use Rattle.band_sem.specs.Semaphore.{is_slot}
 use Rattle.band_player.specs.Kept.{StandsFor}
 use Rattle.band_player.specs.Names.{thing_at}
-use Rattle.band_player.specs.Objects.{ObjectState, IsSteady, TakesWakeOf}
+use Rattle.band_player.specs.Objects.{ObjectState, IsSteady, TakesWakeOf, asked_in}
 use Rattle.band_player.specs.Table.{quiet, StandsAt}
 use Rattle.band_player.specs.Thing.{place_at}
 use Rattle.band_player.specs.declared.table.Table.{Table}
@@ -21,10 +22,12 @@ record SameQuiet (old new : ObjectState) : Type 0 where
   number : new.number ≡ old.number
   line : quiet new.line ≡ quiet old.line
   held : new.held ≡ old.held
+  closed : new.closed ≡ old.closed
+  ended : new.ended ≡ old.ended
 
 same_quiet : (old new : ObjectState) (result : Option Waker) → TakesWakeOf old result new → SameQuiet old new
-same_quiet old new None takes = record { kind = takes.kind; number = ap (λ s. s.number) takes.woken.1; line = ap (λ s. quiet s.line) takes.woken.1; held = ap (λ s. s.held) takes.woken.1 }
-same_quiet old new (Some waker) takes = record { kind = takes.kind; number = ap (λ s. s.number) takes.woken.1; line = ap (λ s. quiet s.line) takes.woken.1; held = ap (λ s. s.held) takes.woken.1 }
+same_quiet old new None takes = record { kind = takes.kind; number = ap (λ s. s.number) takes.woken.1; line = ap (λ s. quiet s.line) takes.woken.1; held = ap (λ s. s.held) takes.woken.1; closed = ap (λ s. s.closed) takes.woken.1; ended = ap (λ s. s.ended) takes.woken.1 }
+same_quiet old new (Some waker) takes = record { kind = takes.kind; number = ap (λ s. s.number) takes.woken.1; line = ap (λ s. quiet s.line) takes.woken.1; held = ap (λ s. s.held) takes.woken.1; closed = ap (λ s. s.closed) takes.woken.1; ended = ap (λ s. s.ended) takes.woken.1 }
 
 module _ (old new : Table) (object object' : ObjectState) (result : Option Waker) (there : slice_get old.objects.items old.last ≡ Some object) (takes : TakesWakeOf object result object')
     (steady : IsSteady object')
@@ -36,11 +39,14 @@ module _ (old new : Table) (object object' : ObjectState) (result : Option Waker
         kind = at.kind ∙ sym same.kind;
         number = same.number ∙ at.number;
         line = subst (λ (l : Line ℕ). AreAlike (rename (stands.tags old.last) l) named.object.line) (sym same.line) at.line;
+        closed = at.closed ∙ sym same.closed;
+        ended = subst (λ (es : List (Entry ℕ)). IsPermutation (map (renamed (stands.tags old.last)) es) named.object.ended) (sym same.ended) at.ended;
         held = at.held ∙ sym same.held;
         held_once = at.held_once;
         steady = steady;
         every = at.every;
-        slots = λ name. slots_kept (stands.tags old.last) old.last object.line object'.line (λ slot. ap (λ (l : Line ℕ). entry_named (is_slot slot) (requests l)) same.line) name
+        slots = λ name. slots_kept (stands.tags old.last) old.last (asked_in object) (asked_in object')
+            (λ slot. ap₂ (λ (es : List (Entry ℕ)) (l : Line ℕ). entry_named (is_slot slot) (es ++ requests l)) same.ended same.line) name
             (thing_at old.names name) (at.slots name);
       }
 

@@ -6,6 +6,7 @@ use Rattle.band_balance.specs.Line.{u64_max}
 use Rattle.band_base.specs.declared.poll.Poll.{Poll}
 use Rattle.band_base.specs.declared.poll.Poll.TheVariants as polls
 use Rattle.band_base.specs.declared.poll.PollError.{PollError}
+use Rattle.band_base.specs.declared.poll.PollError.TheVariants as errors
 use Rattle.band_base.specs.declared.refusal.Refusal.{Refusal}
 use Rattle.band_base.specs.declared.refusal.Refusal.TheVariants.{Unknown, Kind, Same, Finished, Other}
 use Rattle.band_sem.specs.Request.{Request as Asked, Stage, new_request}
@@ -42,7 +43,7 @@ IsJoined stages.Finished = ⊥
 abbrev pub FitsRequest : Option ObjectState → RequestState → Type 0
 FitsRequest None request = ⊥
 FitsRequest (Some sem) request =
-    IsJoined request.stage × (request.of ≡ sem.number) × IsOwn request.stage request.size sem.line
+    IsJoined request.stage × (request.of ≡ sem.number) × IsOwn request.stage request.size (shares_of sem)
     × Fits sem.kind request.mode request.size
 
 -- it is held of the object at its place
@@ -67,7 +68,7 @@ IsOpen stages.Finished = ⊥
 abbrev pub CanPoll : ObjectState → TokenState → Type 0
 CanPoll object (tokens.Holding holding) = Unit {0}
 CanPoll object (tokens.Request request) =
-    IsOpen request.stage × (request.of ≡ object.number) × IsOwn request.stage request.size object.line
+    IsOpen request.stage × (request.of ≡ object.number) × IsOwn request.stage request.size (shares_of object)
     × Fits object.kind request.mode request.size
 
 -- it was polled before
@@ -80,18 +81,25 @@ abbrev pub FitsToken : Option ObjectState → TokenState → Type 0
 FitsToken found (tokens.Request request) = FitsRequest found request
 FitsToken found (tokens.Holding holding) = FitsHolding found holding
 
--- what a request has come to by a poll says what was answered, and what is left of the request
-abbrev pub answer_of : TokenState → Result (Poll Held) PollError
-answer_of (tokens.Holding holding) = Ok (polls.Ready (permit_in holding))
-answer_of (tokens.Request request) = Ok polls.Pending
+-- what a request has come to by a poll, and the reply, say what was answered, and what is left of the request
+abbrev pub answer_of : TokenState → Reply → Result (Poll Held) PollError
+answer_of (tokens.Holding holding) reply = Ok (polls.Ready (permit_in holding))
+answer_of (tokens.Request request) replies.Closed = Err errors.Closed
+answer_of (tokens.Request request) reply = Ok polls.Pending
 
 abbrev pub left_of : RequestState → TokenState → Asked
 left_of request (tokens.Holding holding) = finished (asked_of request)
 left_of request (tokens.Request left) = asked_of left
 
-abbrev pub reply_for : TokenState → Reply
-reply_for (tokens.Holding holding) = replies.Ready
-reply_for (tokens.Request request) = replies.Pending
+abbrev pub IsReply : TokenState → Reply → Type 0
+IsReply (tokens.Holding holding) reply = reply ≡ replies.Ready
+IsReply (tokens.Request request) replies.Closed = Unit {0}
+IsReply (tokens.Request request) reply = reply ≡ replies.Pending
+
+-- a name whose request was answered that its semaphore is closed ends
+abbrev pub left_by : Reply → Option Thing → Option Thing
+left_by replies.Closed thing = None
+left_by reply thing = thing
 
 abbrev pub mode_in : TokenState → Mode
 mode_in (tokens.Holding holding) = holding.mode
@@ -101,11 +109,11 @@ mode_in (tokens.Request request) = request.mode
 pub record PollsRequest (request : RequestState) (waker : ℕ) (old : ObjectState) (token : TokenState)
     (reply : Reply)
     (new : ObjectState) : Type 0 where
-  pub polled : Polls (asked_of request) waker (shares_of old) (answer_of token) (left_of request token)
-      (shares_of new)
+  pub polled : Polls (asked_of request) waker (shares_of old) (answer_of token reply)
+      (left_of request token) (shares_of new)
   pub kind : new.kind ≡ old.kind
   pub mode : mode_in token ≡ request.mode
-  pub replied : reply ≡ reply_for token
+  pub replied : IsReply token reply
   pub lawful : IsSteady new
 
 -- what a token has come to by a poll: what is held stays, and the poll is refused

@@ -1,10 +1,10 @@
 -- What the player has at a place, and what its tokens are: each with the kind of its object, or with the mode
 -- of what it asks for.
-use Rattle.std.specs.Prelude.{◌≡◌, ℕ, Option}
-use Rattle.band_balance.specs.Line.{Line}
+use Rattle.std.specs.Prelude.{◌≡◌, ℕ, Bool, List, Option}
+use Rattle.band_balance.specs.Line.{Entry, Line}
 use Rattle.band_balance.specs.Object.{Kind, Semaphore, Mutex, ReaderWriter, Mode}
 use Rattle.band_base.specs.declared.waker.Waker.{Waker}
-use Rattle.band_sem.specs.Semaphore.{SemaphoreState, IsLike, IsLawful, TakesWake}
+use Rattle.band_sem.specs.Semaphore.{SemaphoreState, IsLike, IsLawful, TakesWake, asked}
 use Rattle.band_sem.specs.Permit.{Permit as Held}
 use Rattle.band_sem.specs.Request.{Request as Asked}
 use Rattle.band_sem.specs.Request.{Stage}
@@ -13,13 +13,16 @@ use Rattle.band_lock.specs.ReaderWriter.{IsWholeLock}
 use Rattle.band_player.specs.declared.object.Primitive.{Primitive}
 use Rattle.band_player.specs.declared.object.Primitive.TheVariants as objects
 
--- its kind, its number, its line by slots, how much of it is held, and how many debts are not paid yet
+-- its kind, its number, its line by slots, how much of it is held, how many debts are not paid yet, whether it is closed,
+-- and who was ended and has not polled since
 pub record ObjectState : Type 0 where
   pub kind : Kind
   pub number : ℕ
   pub line : Line ℕ
   pub held : ℕ
   pub debts : ℕ
+  pub closed : Bool
+  pub ended : List (Entry ℕ)
 
 -- an object of a kind with the figures of a semaphore
 abbrev pub of_kind : Kind → SemaphoreState → ObjectState
@@ -29,6 +32,8 @@ of_kind kind sem = record {
   line = sem.line;
   held = sem.held;
   debts = sem.debts;
+  closed = sem.closed;
+  ended = sem.ended;
 }
 
 abbrev pub state_of : Primitive → ObjectState
@@ -43,13 +48,19 @@ shares_of object = record {
   line = object.line;
   held = object.held;
   debts = object.debts;
+  closed = object.closed;
+  ended = object.ended;
 }
+
+-- who has a slot of it
+abbrev pub asked_in : ObjectState → List (Entry ℕ)
+asked_in object = asked (shares_of object)
 
 -- what a semaphore would become, with the kind that it has
 abbrev pub on_semaphore : (SemaphoreState → SemaphoreState) → ObjectState → ObjectState
 on_semaphore change object = of_kind object.kind (change (shares_of object))
 
--- two of a kind that differ at most in the order of those granted
+-- two of a kind that differ at most in the order of those granted and of those ended
 pub record IsLikeObject (one other : ObjectState) : Type 0 where
   pub kind : other.kind ≡ one.kind
   pub shares : IsLike (shares_of one) (shares_of other)

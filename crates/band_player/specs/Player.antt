@@ -11,7 +11,7 @@ pub use Rattle.band_sem.specs.Visits.{Pays}
 use Rattle.band_script.specs.declared.call.Call.{Call}
 use Rattle.band_script.specs.declared.call.Call.TheVariants.{Sem, Mutex, Rw, Ask, Lock, Read, Write, Poll}
 use Rattle.band_script.specs.declared.call.Call.TheVariants.{Drop, Try, TryLock, TryRead, TryWrite, Release}
-use Rattle.band_script.specs.declared.call.Call.TheVariants.{Reduce, Drain, Forget, Split, Merge, Downgrade}
+use Rattle.band_script.specs.declared.call.Call.TheVariants.{Reduce, Drain, Close, Forget, Split, Merge, Downgrade}
 use Rattle.band_script.specs.declared.call.Call.TheVariants.{Status}
 use Rattle.band_player.specs.Kept as kept
 use Rattle.band_player.specs.Visits.{load}
@@ -75,6 +75,7 @@ TakesNoMemory (TryWrite made of) = ⊥
 TakesNoMemory (Release of n) = Unit {0}
 TakesNoMemory (Reduce of n) = ⊥
 TakesNoMemory (Drain of n) = Unit {0}
+TakesNoMemory (Close of) = Unit {0}
 TakesNoMemory (Forget name) = Unit {0}
 TakesNoMemory (Split name made n) = ⊥
 TakesNoMemory (Merge kept spent) = Unit {0}

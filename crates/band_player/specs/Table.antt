@@ -1,14 +1,15 @@
 -- How the player's table and objects stand for a state.
 use Rattle.std.specs.Prelude.{◌≡◌, ℕ, Bool, true, false, ◌==◌, ◌<◌, if◌then◌else◌, List, [], Option, Some}
-use Rattle.std.specs.Prelude.{None, length, slice_get}
+use Rattle.std.specs.Prelude.{None, length, map, slice_get}
+use Rattle.std.specs.List.Sorted.{IsPermutation}
 use Rattle.std.specs.Str.{bytes_eq}
 use Rattle.band_balance.specs.Laws.{Pairwise}
-use Rattle.band_balance.specs.Line.{Entry, Line, AreAlike, requests, total, entry_named, rename}
-use Rattle.band_balance.specs.Object.{tag}
+use Rattle.band_balance.specs.Line.{Entry, Line, AreAlike, total, entry_named, rename, renamed}
+use Rattle.band_balance.specs.Object.{tag, asked}
 use Rattle.band_balance.specs.Rule.{has_name}
 use Rattle.band_sem.specs.Request.{Joined}
 use Rattle.band_sem.specs.Semaphore.{is_slot}
-use Rattle.band_player.specs.Objects.{ObjectState, RequestState, IsSteady}
+use Rattle.band_player.specs.Objects.{ObjectState, RequestState, IsSteady, asked_in}
 use Rattle.band_player.specs.Thing.{Thing, place_at}
 use Rattle.band_player.specs.Thing as things
 use Rattle.band_rules.specs.Order.{IsInOrder}
@@ -24,7 +25,7 @@ pub record Seen : Type 0 where
 abbrev pub seen : List ℕ → Named → Seen
 seen name it = record {
   named = bytes_eq name it.name;
-  request = entry_named (has_name bytes_eq name) (requests it.object.line);
+  request = entry_named (has_name bytes_eq name) (asked it.object);
   holding = entry_named (has_name bytes_eq name) it.object.held;
 }
 
@@ -47,19 +48,19 @@ shown place name (Some thing) = if place_at thing == place then shown_of name th
 abbrev pub quiet : {N : Type 0} → Line N → Line N
 quiet line = record line { wakes = [] }
 
--- a request of the table has its slot in the line of its object, and the slot its name and mode
-pub record HasSlot (tags : ℕ → Tag) (place : ℕ) (line : Line ℕ) (name : List ℕ)
+-- a request of the table has its slot among those of its object, and the slot its name and mode
+pub record HasSlot (tags : ℕ → Tag) (place : ℕ) (entries : List (Entry ℕ)) (name : List ℕ)
     (request : RequestState) : Type 0 where
   pub slot : ℕ
   pub joined : request.stage ≡ Joined slot
   pub of : request.of ≡ place
-  pub own : entry_named (is_slot slot) (requests line) ≡ Some (record { name = slot; size = request.size })
+  pub own : entry_named (is_slot slot) entries ≡ Some (record { name = slot; size = request.size })
   pub tagged : tags slot ≡ tag request.mode name
 
-abbrev pub HasSlotAt : (ℕ → Tag) → ℕ → Line ℕ → List ℕ → Option Thing → Type 0
-HasSlotAt tags place line name (Some (things.Request at request)) =
-    at ≡ place → HasSlot tags place line name request
-HasSlotAt tags place line name thing = Unit {0}
+abbrev pub HasSlotAt : (ℕ → Tag) → ℕ → List (Entry ℕ) → List ℕ → Option Thing → Type 0
+HasSlotAt tags place entries name (Some (things.Request at request)) =
+    at ≡ place → HasSlot tags place entries name request
+HasSlotAt tags place entries name thing = Unit {0}
 
 -- what is kept of an object stands for it, by the names of its slots
 pub record StandsAt (tags : ℕ → Tag) (table : List ℕ → Option Thing) (place : ℕ) (kept : ObjectState)
@@ -67,11 +68,13 @@ pub record StandsAt (tags : ℕ → Tag) (table : List ℕ → Option Thing) (pl
   pub kind : named.object.kind ≡ kept.kind
   pub number : kept.number ≡ place
   pub line : AreAlike (rename tags (quiet kept.line)) named.object.line
+  pub closed : named.object.closed ≡ kept.closed
+  pub ended : IsPermutation (map (renamed tags) kept.ended) named.object.ended
   pub held : total named.object.held ≡ kept.held
   pub held_once : Pairwise (λ (a b : Entry Tag). bytes_eq a.name.name b.name.name ≡ false) named.object.held
   pub steady : IsSteady kept
   pub every : (name : List ℕ) → seen name named ≡ shown place name (table name)
-  pub slots : (name : List ℕ) → HasSlotAt tags place kept.line name (table name)
+  pub slots : (name : List ℕ) → HasSlotAt tags place (asked_in kept) name (table name)
 
 pub record StandsUnder (tags : ℕ → ℕ → Tag) (table : List ℕ → Option Thing) (kept : List ObjectState)
     (state : State) : Type 0 where

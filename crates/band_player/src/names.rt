@@ -21,15 +21,14 @@ pub(crate) struct Names {
 
 impl Names {
     ghost use Rattle.std.specs.Prelude.{◌≡◌, ℕ, ◌-◌, ◌≤◌, ◌↔◌, List, None, Some, Err, IsSome, IfOk, OnOk, OnErr, IsOk, IsTrue, MatchResult, false, option_map};
-    ghost use Rattle.band_balance.specs.Line.{is_served};
     ghost use Rattle.band_balance.specs.Object.{Mode, Permit, Write, is_of};
-    ghost use Rattle.band_sem.specs.Semaphore.{taken};
+    ghost use Rattle.band_sem.specs.Semaphore.{serves, taken};
     ghost use Rattle.band_sem.specs.Visits.{Pays, burden};
     ghost use Rattle.band_player.specs.Objects.{shares_of, on_semaphore, IsSteady};
     ghost use Rattle.band_player.specs.Thing as things;
     ghost use Rattle.band_player.specs.Token.{ended, thing_of, count_of, counted, IsHeld};
     ghost use Rattle.band_player.specs.Names.{thing_at, AreSame, Updated, is_object};
-    ghost use Rattle.band_player.specs.Moves.{AsksName, mode_of, size_for, had_of, object_place, held_as, HeldAt, HasCount, HasPermits, SplitsTo, CanGrow, Grows};
+    ghost use Rattle.band_player.specs.Moves.{AsksName, mode_of, size_for, had_of, object_place, held_as, HeldAt, HasCount, HasPermits, SplitsTo, CanGrow, Grows, left_by};
 
     /// No name.
     pub(crate) fn new(alloc: Global) -> Names
@@ -150,7 +149,7 @@ impl Names {
     ) -> Result<(), AllocError>
         requires free { thing_at self.old name ≡ None }
         requires offered { IsTrue (is_of object.old.kind (mode_of want)) }
-        requires served { IsTrue (is_served (size_for want object.old.kind) object.old.line) }
+        requires served { IsTrue (serves (size_for want object.old.kind) (shares_of object.old)) }
         ensures ok { OnOk result (Updated (thing_at self.old) (thing_at self.new) name
             (Some (things.Holding (had_of want object.old)))) }
         ensures taken { OnOk result (object.new
@@ -217,6 +216,19 @@ impl Names {
         ensures updated { Updated (thing_at self.old) (thing_at self.new) name.now None }
     {
         self.tokens.remove(name)
+    }
+
+    /// Ends the name of a request that was answered that its semaphore is closed, and of no other.
+    pub(crate) fn end_closed(&mut self, name: &Name, reply: &Reply)
+        requires { is_object (thing_at self.old name.now) ≡ false }
+        ensures { Updated (thing_at self.old) (thing_at self.new) name.now
+            (left_by reply.now (thing_at self.old name.now)) }
+    {
+        if let Reply::Closed = reply {
+            if let Some(token) = self.remove(name) {
+                token.lose();
+            }
+        }
     }
 
     /// Adds a permit to the one with this name.

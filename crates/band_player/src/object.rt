@@ -55,7 +55,7 @@ fn most_readers(n: Option<u64>) -> u64
 }
 
 // A script keeps so many bytes for each object, beside its name.
-const _: () = prove!(size_of::<Object>() == 88);
+const _: () = prove!(size_of::<Object>() == 96);
 
 impl Model for Object {
     ghost use Rattle.band_player.specs.Objects.{ObjectState, state_of};
@@ -70,7 +70,7 @@ impl Object {
     ghost use Rattle.band_balance.specs.Line.{drained, overflows, owes_too_much, is_served};
     ghost use Rattle.band_balance.specs.Object.{Permit};
     ghost use Rattle.band_balance.specs.Object as kinds;
-    ghost use Rattle.band_sem.specs.Semaphore.{new_state, taken, released, reduced};
+    ghost use Rattle.band_sem.specs.Semaphore.{new_state, serves, taken, released, reduced, shut};
     ghost use Rattle.band_sem.specs.Visits.{Pays, burden};
     ghost use Rattle.band_player.specs.Objects.{of_kind, shares_of, on_semaphore, IsLikeObject, IsSteady, TakesWakeOf};
     ghost use Rattle.band_player.specs.Moves.{mode_of, size_for, asked_first, had_of, kind_made, count_made};
@@ -168,6 +168,13 @@ impl Object {
         }
     }
 
+    /// Whether it was closed.
+    pub(crate) fn is_closed(&self) -> bool
+        ensures { result ≡ self.now.closed }
+    {
+        self.semaphore().is_closed()
+    }
+
     /// Whether it could be had without waiting.
     pub(crate) fn would_serve(&self, want: Want) -> bool
         ensures { result ≡ is_served (size_for want self.now.kind) self.now.line }
@@ -178,7 +185,7 @@ impl Object {
     /// Takes what it offers without waiting.
     pub(crate) fn try_take(&mut self, want: Want) -> Option<Token>
         requires { IsTrue (is_of self.old.kind (mode_of want)) }
-        ensures served { IsSome result ↔ IsTrue (is_served (size_for want self.old.kind) self.old.line) }
+        ensures served { IsSome result ↔ IsTrue (serves (size_for want self.old.kind) (shares_of self.old)) }
         ensures token { IfSome result (λ token. token ≡ Holding (had_of want self.old)) }
         ensures some { OnSome result (self.new
             ≡ on_semaphore (taken (size_for want self.old.kind)) self.old) }
@@ -236,6 +243,20 @@ impl Object {
     {
         match &mut self.primitive {
             Primitive::Semaphore(semaphore) => semaphore.reduce_permits(n, steps),
+            _ => unreachable!(),
+        }
+    }
+
+    /// Closes a semaphore.
+    pub(crate) fn close<L: Ledger>(&mut self, steps: &mut Steps<L>)
+        requires { IsTrue (is_of self.old.kind Permit) }
+        ensures state { IsLikeObject (on_semaphore shut self.old) self.new }
+        ensures steady { IsSteady self.new }
+        ensures visits { Pays (burden (shares_of self.old)) (burden (shares_of self.new))
+            steps.old steps.new }
+    {
+        match &mut self.primitive {
+            Primitive::Semaphore(semaphore) => semaphore.close(steps),
             _ => unreachable!(),
         }
     }

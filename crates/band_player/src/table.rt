@@ -111,6 +111,9 @@ impl Table {
             return Ok(Reply::Refused(Refusal::Taken));
         }
         let object = &mut self.objects[place as usize];
+        if object.is_closed() {
+            return Ok(Reply::Refused(Refusal::Closed));
+        }
         let reply = self.names.ask(object, want, made, waker, steps)?;
         self.last = place;
         Ok(reply)
@@ -141,6 +144,7 @@ impl Table {
         match token.poll(object, waker, steps) {
             Ok((token, reply)) => {
                 boxed.fill(token);
+                self.names.end_closed(name, &reply);
                 self.last = place;
                 reply
             }
@@ -184,10 +188,13 @@ impl Table {
         if self.names.is_live(&made) {
             return Ok(Reply::Refused(Refusal::Taken));
         }
-        if !self.objects[place as usize].would_serve(want) {
+        let object = &mut self.objects[place as usize];
+        if object.is_closed() {
+            return Ok(Reply::Refused(Refusal::Closed));
+        }
+        if !object.would_serve(want) {
             return Ok(Reply::Nothing);
         }
-        let object = &mut self.objects[place as usize];
         self.names.take(object, want, made)?;
         self.last = place;
         Ok(Reply::Done)
@@ -254,6 +261,23 @@ impl Table {
         self.last = place;
         let object = &mut self.objects[place as usize];
         Reply::Drained(object.drain(n))
+    }
+
+    /// Closes a semaphore.
+    pub(crate) fn close<L: Ledger>(&mut self, of: &Name, steps: &mut Steps<L>) -> Reply
+        requires sound { IsSound self.old }
+        requires quiet { wakes_left self.old ≡ [] }
+        ensures answered { Answered (calls.Close of.now) self.old result self.new }
+        ensures visits { Pays (load self.old.objects.items) (load self.new.objects.items)
+            steps.old steps.new }
+    {
+        let place = match self.object_for(of, Want::Permits(0)) {
+            Ok(place) => place,
+            Err(refusal) => return Reply::Refused(refusal),
+        };
+        self.last = place;
+        self.objects[place as usize].close(steps);
+        Reply::Done
     }
 
     /// The figures of an object.
@@ -394,6 +418,7 @@ impl Table {
             Call::Release { of, n } => Ok(self.release(&of, n, steps)),
             Call::Reduce { of, n } => self.reduce(&of, n, steps),
             Call::Drain { of, n } => Ok(self.drain(&of, n)),
+            Call::Close { of } => Ok(self.close(&of, steps)),
             Call::Downgrade { name } => Ok(self.downgrade(&name, steps)),
             Call::Status { name } => Ok(self.status(&name)),
             Call::Forget { name } => Ok(self.forget(&name)),

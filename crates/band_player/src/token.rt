@@ -5,7 +5,7 @@ ghost use Rattle.band_player.specs.Token.{Holding, ended, thing_of, count_of, co
 
 use crate::Reply;
 use crate::object::{Object, Primitive};
-use band_base::{Poll, Steps, Waker};
+use band_base::{Poll, PollError, Steps, Waker};
 use band_lock::{LockGuard, LockRequest, ReadAccess, ReadRequest, WriteAccess, WriteRequest};
 use band_sem::{Acquire, MergeError, Refusal, SemaphorePermit};
 use std::alloc::AllocError;
@@ -96,6 +96,10 @@ impl Token {
                     Ok(Poll::Pending) => {
                         let any = AnyToken::Acquire(request);
                         Ok((Token { any }, Reply::Pending))
+                    }
+                    Err(PollError::Closed) => {
+                        let any = AnyToken::Acquire(request);
+                        Ok((Token { any }, Reply::Closed))
                     }
                     Err(_) => {
                         request.lose();

@@ -2,9 +2,8 @@
 ghost use Rattle.std.specs.Prelude.{◌≡◌, ◌-◌, ◌≤◌, List, ℕ, None, Some, IfOk, OnOk, OnErr, IsTrue, is_some};
 ghost use Rattle.std.specs.Borrow.{sem};
 ghost use Rattle.std.specs.Option.{option_copied, option_copied_mut};
-ghost use Rattle.band_balance.specs.Line.{is_served};
 ghost use Rattle.band_balance.specs.Object.{Permit, is_of};
-ghost use Rattle.band_sem.specs.Semaphore.{taken};
+ghost use Rattle.band_sem.specs.Semaphore.{serves, taken};
 ghost use Rattle.band_sem.specs.Visits.{Pays, burden};
 ghost use Rattle.band_player.specs.Apart.{at, Sets};
 ghost use Rattle.band_player.specs.Moves.{PollsRequest, asked_first, had_of, mode_of, size_for};
@@ -135,7 +134,7 @@ impl Tokens {
     ) -> Result<(), AllocError>
         requires free { at self.old name ≡ None }
         requires offered { IsTrue (is_of object.old.kind (mode_of want)) }
-        requires served { IsTrue (is_served (size_for want object.old.kind) object.old.line) }
+        requires served { IsTrue (serves (size_for want object.old.kind) (shares_of object.old)) }
         ensures ok { OnOk result (Sets self.old self.new name (Some (Holding (had_of want object.old)))) }
         ensures taken { OnOk result (object.new
             ≡ on_semaphore (taken (size_for want object.old.kind)) object.old) }

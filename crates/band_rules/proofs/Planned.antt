@@ -9,8 +9,8 @@ use Rattle.std.proofs.lemmas.Int.{ints}
 use Rattle.band_base.specs.declared.refusal.Refusal.{Refusal}
 use Rattle.band_base.specs.declared.refusal.Refusal.TheVariants as refusals
 use Rattle.band_balance.specs.Laws.{IsWithin, HasAShare, permits}
-use Rattle.band_balance.specs.Line.{Entry, requests, total, entry_named, drained, is_served, overflows, owes_too_much, u64_max}
-use Rattle.band_balance.specs.Object.{Object, Kind, Semaphore, Mutex, ReaderWriter, Mode, Permit, Lock, Read, Write, tag, is_of, size_of, new_object, size_in}
+use Rattle.band_balance.specs.Line.{Entry, total, entry_named, drained, is_served, overflows, owes_too_much, u64_max}
+use Rattle.band_balance.specs.Object.{Object, Kind, Semaphore, Mutex, ReaderWriter, Mode, Permit, Lock, Read, Write, tag, is_of, size_of, new_object, size_in, asked}
 use Rattle.band_balance.specs.Rule.{Rule, Fits, Holds, IsAllowed, act, joiner, brought, removed, has_name as is_tag}
 use Rattle.band_balance.specs.Rule as rules
 use Rattle.band_balance.proofs.Requests.{all-found, entry_named-append}
@@ -28,7 +28,7 @@ use Rattle.band_rules.specs.declared.reply.Reply.{Reply}
 use Rattle.band_rules.specs.declared.reply.Reply.TheVariants as replies
 use Rattle.band_rules.specs.Permits.{brought_by, removed_by, held_of}
 use Rattle.band_rules.specs.Step.{reply_of}
-use Rattle.band_rules.specs.Woken.{may_grant}
+use Rattle.band_rules.specs.Woken.{may_grant, closes}
 use Rattle.band_rules.proofs.States.{IsAt, each_is_at, all_at, same_named, Found, found, IsAbsent, absent}
 
 -- what a call and its reply count for is what its plan brings and takes away
@@ -59,6 +59,7 @@ pub record MayAct (call : Call) (state : State) (of : Named) (rule : Rule (List 
   pub at : IsAt of state
   pub allowed : IsAllowed bytes_eq rule of.object
   pub gives : rules.may_grant rule ≡ may_grant call
+  pub ends : rules.closes rule ≡ closes call
   pub joins : IfSome (joiner rule of.object) (λ name. AllByRecursion (IsAbsent name) state)
   pub counts : Counts call state (reply_of (act bytes_eq rule of.object).answer) of.name (brought rule) (removed bytes_eq rule of.object)
 
@@ -168,10 +169,11 @@ uncounted call reply to none = record {
   removes = λ name. (none name reply).1 ∙ nothing (bytes_eq name to);
 }
 
-acts : (call : Call) {state : State} {of : Named} (rule : Rule (List ℕ)) → IsAt of state × Sound of → IsAllowed bytes_eq rule of.object → rules.may_grant rule ≡ may_grant call
+acts : (call : Call) {state : State} {of : Named} (rule : Rule (List ℕ)) → IsAt of state × Sound of → IsAllowed bytes_eq rule of.object
+    → (rules.may_grant rule ≡ may_grant call) × (rules.closes rule ≡ closes call)
     → IfSome (joiner rule of.object) (λ name. AllByRecursion (IsAbsent name) state)
     → Counts call state (reply_of (act bytes_eq rule of.object).answer) of.name (brought rule) (removed bytes_eq rule of.object) → IsPlanned call state (Act of rule)
-acts call rule known allowed gives joins counts = record { at = known.0; allowed = allowed; gives = gives; joins = joins; counts = counts }
+acts call rule known allowed gives joins counts = record { at = known.0; allowed = allowed; gives = gives.0; ends = gives.1; joins = joins; counts = counts }
 
 module _ (state : State) (differ : NamesDiffer state) (sound : AllByRecursion Sound state) where
   -- what each object of the state is
@@ -196,24 +198,28 @@ module _ (state : State) (differ : NamesDiffer state) (sound : AllByRecursion So
       for_unused call state (standing made state) _
       (λ none. record { none = absent made state none; new = new; lets = lets; within = within; count = count; made_with = made_with; counts = counts })
 
-  module _ (call : Call) (mode : Mode) (size : Kind → ℕ) (fits : (kind : Kind) → is_of kind mode ≡ true → Fits kind mode (size kind)) (keeps : false ≡ may_grant call)
+  module _ (call : Call) (mode : Mode) (size : Kind → ℕ) (fits : (kind : Kind) → is_of kind mode ≡ true → Fits kind mode (size kind)) (keeps : (false ≡ may_grant call) × (false ≡ closes call))
       (none : CountsNothing call state) where
     asking : (made of : List ℕ) (waker : ℕ) → IsPlanned call state (naming mode size made of (λ n. rules.Ask (tag mode made) n waker) state)
     asking made of waker =
         for_object call state (λ kind. is_of kind mode) (standing of state) _ (λ it is offers.
         for_unused call state (standing made state) _ (λ free.
+        for_test call state it.object.closed refusals.Closed _ (λ not_closed.
         let gone = absent made state free in
         let known = (stands of is).0 in
-        acts call (rules.Ask (tag mode made) (size it.object.kind) waker) known ((all_at (IsAbsent made) known.0 gone).fresh, fits it.object.kind offers) keeps
-        (joiner_is (is_served (size it.object.kind) it.object.line) (λ name. AllByRecursion (IsAbsent name) state) made gone) (uncounted call _ it.name none)))
+        acts call (rules.Ask (tag mode made) (size it.object.kind) waker) known
+        (record { fresh = (all_at (IsAbsent made) known.0 gone).fresh; not_closed = not_closed; fits = fits it.object.kind offers }) keeps
+        (joiner_is (is_served (size it.object.kind) it.object.line) (λ name. AllByRecursion (IsAbsent name) state) made gone) (uncounted call _ it.name none))))
 
     trying : (made of : List ℕ) → IsPlanned call state (naming mode size made of (rules.Try (tag mode made)) state)
     trying made of =
         for_object call state (λ kind. is_of kind mode) (standing of state) _ (λ it is offers.
         for_unused call state (standing made state) _ (λ free.
+        for_test call state it.object.closed refusals.Closed _ (λ not_closed.
         let known = (stands of is).0 in
-        acts call (rules.Try (tag mode made) (size it.object.kind)) known ((all_at (IsAbsent made) known.0 (absent made state free)).fresh, fits it.object.kind offers) keeps tt
-        (uncounted call _ it.name none)))
+        acts call (rules.Try (tag mode made) (size it.object.kind)) known
+        (record { fresh = (all_at (IsAbsent made) known.0 (absent made state free)).fresh; not_closed = not_closed; fits = fits it.object.kind offers }) keeps tt
+        (uncounted call _ it.name none))))
 
   pub planned : (call : Call) → IsPlanned call state (plan call state)
   planned (calls.Sem made n) =
@@ -226,57 +232,60 @@ module _ (state : State) (differ : NamesDiffer state) (sound : AllByRecursion So
       let most = most_readers n in
       making _ made (new_object (ReaderWriter most) most) (new_reader_writer_is bytes_eq most) (some_readers n made) (λ small. within_new (ReaderWriter most) most (most_fits n made small))
       most (all_free most) (record { brings = λ name. refl; removes = λ name. nothing (bytes_eq name made) })
-  planned (calls.Ask made of n waker) = asking _ Permit (λ kind. n) (any_size n) refl (λ name reply. (refl, refl)) made of waker
-  planned (calls.Lock made of waker) = asking _ Lock (λ kind. size_of kind Lock) (λ kind offers. (offers, refl)) refl (λ name reply. (refl, refl)) made of waker
-  planned (calls.Read made of waker) = asking _ Read (λ kind. size_of kind Read) (λ kind offers. (offers, refl)) refl (λ name reply. (refl, refl)) made of waker
-  planned (calls.Write made of waker) = asking _ Write (λ kind. size_of kind Write) (λ kind offers. (offers, refl)) refl (λ name reply. (refl, refl)) made of waker
-  planned (calls.Try made of n) = trying _ Permit (λ kind. n) (any_size n) refl (λ name reply. (refl, refl)) made of
-  planned (calls.TryLock made of) = trying _ Lock (λ kind. size_of kind Lock) (λ kind offers. (offers, refl)) refl (λ name reply. (refl, refl)) made of
-  planned (calls.TryRead made of) = trying _ Read (λ kind. size_of kind Read) (λ kind offers. (offers, refl)) refl (λ name reply. (refl, refl)) made of
-  planned (calls.TryWrite made of) = trying _ Write (λ kind. size_of kind Write) (λ kind offers. (offers, refl)) refl (λ name reply. (refl, refl)) made of
+  planned (calls.Ask made of n waker) = asking _ Permit (λ kind. n) (any_size n) (refl, refl) (λ name reply. (refl, refl)) made of waker
+  planned (calls.Lock made of waker) = asking _ Lock (λ kind. size_of kind Lock) (λ kind offers. (offers, refl)) (refl, refl) (λ name reply. (refl, refl)) made of waker
+  planned (calls.Read made of waker) = asking _ Read (λ kind. size_of kind Read) (λ kind offers. (offers, refl)) (refl, refl) (λ name reply. (refl, refl)) made of waker
+  planned (calls.Write made of waker) = asking _ Write (λ kind. size_of kind Write) (λ kind offers. (offers, refl)) (refl, refl) (λ name reply. (refl, refl)) made of waker
+  planned (calls.Try made of n) = trying _ Permit (λ kind. n) (any_size n) (refl, refl) (λ name reply. (refl, refl)) made of
+  planned (calls.TryLock made of) = trying _ Lock (λ kind. size_of kind Lock) (λ kind offers. (offers, refl)) (refl, refl) (λ name reply. (refl, refl)) made of
+  planned (calls.TryRead made of) = trying _ Read (λ kind. size_of kind Read) (λ kind offers. (offers, refl)) (refl, refl) (λ name reply. (refl, refl)) made of
+  planned (calls.TryWrite made of) = trying _ Write (λ kind. size_of kind Write) (λ kind offers. (offers, refl)) (refl, refl) (λ name reply. (refl, refl)) made of
   planned (calls.Poll name waker) =
       for_asked _ _ (standing name state) _ (λ of entry is.
       let it = stands name is in
-      acts _ (rules.Poll name waker) it.0 (found_some _ entry it.1) refl tt (uncounted _ _ of.name (λ other reply. (refl, refl))))
+      acts _ (rules.Poll name waker) it.0 (found_some _ entry it.1) (refl, refl) tt (uncounted _ _ of.name (λ other reply. (refl, refl))))
   planned (calls.Drop name) =
       for_owner _ _ (standing name state) _
       (λ of entry is.
       let it = stands name is in
-      acts _ (rules.Drop name) it.0 (some_among (is_tag bytes_eq name) (requests of.object.line) of.object.held (inl (found_some _ entry it.1))) refl tt
+      acts _ (rules.Drop name) it.0 (some_among (is_tag bytes_eq name) (asked of.object) of.object.held (inl (found_some _ entry it.1))) (refl, refl) tt
       (uncounted _ _ of.name (λ other reply. (refl, refl))))
       (λ of entry is.
       let it = stands name is in
-      acts _ (rules.Drop name) it.0 (some_among (is_tag bytes_eq name) (requests of.object.line) of.object.held (inr (found_some _ entry it.1))) refl tt
+      acts _ (rules.Drop name) it.0 (some_among (is_tag bytes_eq name) (asked of.object) of.object.held (inr (found_some _ entry it.1))) (refl, refl) tt
       (uncounted _ _ of.name (λ other reply. (refl, refl))))
   planned (calls.Release of n) =
       for_object _ _ (λ kind. is_of kind Permit) (standing of state) _ (λ it is offers.
       for_test _ _ (overflows n it.object.line (total it.object.held)) refusals.Overflow _ (λ fits.
       let known = stands of is in
-      acts _ (rules.Release n) known.0 (offers, fits) refl tt
+      acts _ (rules.Release n) known.0 (offers, fits) (refl, refl) tt
       (subst (λ to. Counts (calls.Release of n) state replies.Done to n 0) (bytes_told.equal of it.name known.1) (record { brings = λ name. refl; removes = λ name. nothing (bytes_eq name of) }))))
   planned (calls.Reduce of n) =
       for_object _ _ (λ kind. is_of kind Permit) (standing of state) _ (λ it is offers.
       for_test _ _ (owes_too_much n it.object.line) refusals.Debt _ (λ fits.
       let known = stands of is in
-      acts _ (rules.Reduce n) known.0 (offers, fits) refl tt
+      acts _ (rules.Reduce n) known.0 (offers, fits) (refl, refl) tt
       (subst (λ to. Counts (calls.Reduce of n) state replies.Done to 0 n) (bytes_told.equal of it.name known.1) (record { brings = λ name. nothing (bytes_eq name of); removes = λ name. refl }))))
   planned (calls.Drain of n) =
       for_object _ _ (λ kind. is_of kind Permit) (standing of state) _ (λ it is offers.
       let known = stands of is in
       let count = drained n it.object.line in
-      acts _ (rules.Drain n) known.0 offers refl tt
+      acts _ (rules.Drain n) known.0 offers (refl, refl) tt
       (subst (λ to. Counts (calls.Drain of n) state (replies.Drained count) to 0 count) (bytes_told.equal of it.name known.1)
       (record { brings = λ name. nothing (bytes_eq name of); removes = λ name. refl })))
+  planned (calls.Close of) =
+      for_object _ _ (λ kind. is_of kind Permit) (standing of state) _ (λ it is offers.
+      acts _ rules.Close (stands of is).0 offers (refl, refl) tt (uncounted _ _ it.name (λ other reply. (refl, refl))))
   planned (calls.Forget name) =
       for_lender _ _ Permit (standing name state) _ (λ of entry is same.
       let it = stands name is in
-      acts _ (rules.Forget name) it.0 (holds Permit name of entry is same) refl tt
+      acts _ (rules.Forget name) it.0 (holds Permit name of entry is same) (refl, refl) tt
       (record { brings = λ other. nothing (bytes_eq other of.name); removes = λ other. ap (held_of other) is ∙ ap (λ size. cond (bytes_eq other of.name) size 0) (sym (ap size_in it.1)) }))
   planned (calls.Split name made n) =
       for_lender _ _ Permit (standing name state) _ (λ of entry is same.
       for_unused _ _ (standing made state) _ (λ none.
       let known = (stands name is).0 in
-      acts _ (rules.Split name made n) known (holds Permit name of entry is same, (all_at (IsAbsent made) known.0 (absent made state none)).fresh) refl tt
+      acts _ (rules.Split name made n) known (holds Permit name of entry is same, (all_at (IsAbsent made) known.0 (absent made state none)).fresh) (refl, refl) tt
       (uncounted _ _ of.name (λ other reply. (refl, refl)))))
   planned (calls.Merge kept spent) =
       for_live _ _ (standing kept state) _ (for_live _ _ (standing spent state) _
@@ -290,9 +299,9 @@ module _ (state : State) (differ : NamesDiffer state) (sound : AllByRecursion So
         holds Permit kept one entry is same,
         subst (λ (of : Named). Holds bytes_eq Permit spent of.object) one_is (holds Permit spent other more also same_too),
         apart,
-      ) refl tt (uncounted _ _ one.name (λ other reply. (refl, refl)))))))))
+      ) (refl, refl) tt (uncounted _ _ one.name (λ other reply. (refl, refl)))))))))
   planned (calls.Downgrade name) =
       for_lender _ _ Write (standing name state) _ (λ of entry is same.
-      acts _ (rules.Downgrade name) (stands name is).0 (holds Write name of entry is same) refl tt (uncounted _ _ of.name (λ other reply. (refl, refl))))
+      acts _ (rules.Downgrade name) (stands name is).0 (holds Write name of entry is same) (refl, refl) tt (uncounted _ _ of.name (λ other reply. (refl, refl))))
   planned (calls.Status name) =
-      for_object _ _ (λ kind. true) (standing name state) _ (λ it is offers. acts _ rules.Status (stands name is).0 tt refl tt (uncounted _ _ it.name (λ other reply. (refl, refl))))
+      for_object _ _ (λ kind. true) (standing name state) _ (λ it is offers. acts _ rules.Status (stands name is).0 tt (refl, refl) tt (uncounted _ _ it.name (λ other reply. (refl, refl))))

@@ -3,7 +3,7 @@ use Rattle.std.proofs.Common.{ℕ, List, [], ◌∷◌, sym, subst}
 use Rattle.std.specs.List.{AllByRecursion}
 use Rattle.std.specs.Str.{bytes_eq}
 use Rattle.band_base.specs.declared.refusal.Refusal.{Refusal}
-use Rattle.band_balance.specs.Laws.{IsWithin, HasAShare, KeepsShares, IsExclusive}
+use Rattle.band_balance.specs.Laws.{EndsAs, IsWithin, HasAShare, KeepsShares, IsExclusive}
 use Rattle.band_balance.specs.Object.{Object}
 use Rattle.band_balance.specs.Rule.{Rule, act}
 use Rattle.band_balance.specs.Settled.{HeadWaits}
@@ -77,6 +77,9 @@ module _ (P : Object Tag → Type 0) (Fine : Call → Type 0)
 
 pub heads-after : (calls : List Call) → AllByRecursion (λ (named : Named). HeadWaits named.object.line.free named.object.line.waiting) (state_after calls)
 heads-after calls = all-weaker Sound _ (λ named sound. sound.head_waits) (state_after calls) (in_order-after calls).sound
+
+pub closing-after : (calls : List Call) → AllByRecursion (λ (named : Named). EndsAs named.object.closed named.object) (state_after calls)
+closing-after calls = all-weaker Sound _ (λ named sound. sound.closing) (state_after calls) (in_order-after calls).sound
 
 -- Locks let one in at least, and have all of their shares.
 pub lets-step : (state : State) → IsInOrder state → (call : Call) → ForReaders call → AllByRecursion (λ (named : Named). HasAShare named.object.kind) state

@@ -3,9 +3,9 @@ use Rattle.std.proofs.Common.{◌≡◌, ℕ, Bool, true, false, List, [], ◌�
 use Rattle.std.specs.List.{AllByRecursion}
 use Rattle.std.specs.Str.{bytes_eq}
 use Rattle.std.proofs.lemmas.Bool.{cond-true, cond-false, cond_both, false≢true}
-use Rattle.band_balance.specs.Line.{Entry, requests, entry_named}
-use Rattle.band_balance.specs.Object.{Object}
-use Rattle.band_balance.specs.Rule.{has_name, IsFresh, has_name as is_tag}
+use Rattle.band_balance.specs.Line.{Entry, entry_named}
+use Rattle.band_balance.specs.Object.{Object, asked}
+use Rattle.band_balance.specs.Rule.{has_name, IsFresh}
 use Rattle.band_balance.proofs.Held.{other_way}
 use Rattle.band_balance.proofs.Orderly.{pairwise-push}
 use Rattle.band_balance.proofs.Requests.{all-weaker}
@@ -40,14 +40,14 @@ same_named a b (later apart at) (later other at_other) same = same_named a b at 
 abbrev pub Found : (Named → Type 0) → List ℕ → Standing → Type 0
 Found P name Absent = Unit {0}
 Found P name (AnObject it) = P it × (bytes_eq name it.name ≡ true)
-Found P name (ARequest of entry) = P of × (entry_named (has_name bytes_eq name) (requests of.object.line) ≡ Some entry)
+Found P name (ARequest of entry) = P of × (entry_named (has_name bytes_eq name) (asked of.object) ≡ Some entry)
 Found P name (AHolding of entry) = P of × (entry_named (has_name bytes_eq name) of.object.held ≡ Some entry)
 
 pub found : (P : Named → Type 0) (name : List ℕ) (state : State) → AllByRecursion P state → Found P name (standing name state)
 found P name [] each = tt
 found P name (first ∷ rest) each = go (found P name rest each.1) (bytes_eq name first.name) refl _ refl _ refl
   where
-    go : Found P name (standing name rest) → (b : Bool) → bytes_eq name first.name ≡ b → (request : Option (Entry Tag)) → entry_named (has_name bytes_eq name) (requests first.object.line) ≡ request
+    go : Found P name (standing name rest) → (b : Bool) → bytes_eq name first.name ≡ b → (request : Option (Entry Tag)) → entry_named (has_name bytes_eq name) (asked first.object) ≡ request
         → (holding : Option (Entry Tag)) → entry_named (has_name bytes_eq name) first.object.held ≡ holding → Found P name (standing_at first b request holding (standing name rest))
     go elsewhere true is request there holding also = (each.0, is)
     go elsewhere false is (Some entry) there holding also = (each.0, there)
@@ -64,8 +64,8 @@ absent name [] is = tt
 absent name (first ∷ rest) is = go (absent name rest) (bytes_eq name first.name) refl _ refl _ refl is
   where
     go : (standing name rest ≡ Absent → AllByRecursion (IsAbsent name) rest) → (b : Bool) → bytes_eq name first.name ≡ b → (request : Option (Entry Tag))
-        → entry_named (is_tag bytes_eq name) (requests first.object.line) ≡ request
-        → (holding : Option (Entry Tag)) → entry_named (is_tag bytes_eq name) first.object.held ≡ holding → standing_at first b request holding (standing name rest) ≡ Absent
+        → entry_named (has_name bytes_eq name) (asked first.object) ≡ request
+        → (holding : Option (Entry Tag)) → entry_named (has_name bytes_eq name) first.object.held ≡ holding → standing_at first b request holding (standing name rest) ≡ Absent
         → AllByRecursion (IsAbsent name) (first ∷ rest)
     go rests false apart None there None also none = (record { apart = apart; fresh = record { asked = there; held = also } }, rests none)
     go rests b apart request there holding also none = cc

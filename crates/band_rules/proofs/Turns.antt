@@ -5,12 +5,12 @@ use Rattle.std.specs.Str.{bytes_eq}
 use Rattle.std.proofs.lemmas.Bool.{cond-true, cond-false}
 use Rattle.band_balance.specs.Laws.{Pairwise}
 use Rattle.band_balance.specs.Line.{Entry, requests, entry_of}
-use Rattle.band_balance.specs.Object.{Object}
+use Rattle.band_balance.specs.Object.{Object, asked}
 use Rattle.band_balance.specs.Rule.{Rule, has_name, IsFresh, joiner, act}
 use Rattle.band_balance.proofs.Fronts.{each_always, pairwise-cross, unmapped}
 use Rattle.band_balance.proofs.Held.{other_way}
 use Rattle.band_balance.proofs.Orderly.{pairwise-weaker, pairwise-by, all-by}
-use Rattle.band_balance.proofs.Rename.{all_of_both}
+use Rattle.band_balance.proofs.Rename.{all_of_second, all_of_both}
 use Rattle.band_balance.proofs.Requests.{all-weaker, all-not_named}
 use Rattle.band_balance.proofs.Rules.{bytes_told, queues-act}
 use Rattle.band_balance.proofs.Shares.{both_of_each}
@@ -63,7 +63,7 @@ in_turn-others (Some name) number now object fresh turn = record {
   where
     others : AllByRecursion (λ (e : Entry Tag). bytes_eq e.name.name name ≡ false) (requests object.line)
     others = all-weaker _ _ (λ (e : Entry Tag) apart. other_way bytes_eq bytes_told name e.name.name apart) (requests object.line)
-        (all-not_named (has_name bytes_eq name) (requests object.line) fresh.asked)
+        (all_of_second _ object.ended (requests object.line) (all-not_named (has_name bytes_eq name) (asked object) fresh.asked))
 
 -- and it joins after them
 in_turn-act : (number : List ℕ → ℕ) (now : ℕ) (call : Call) (state : State) (of : Named) (rule : Rule (List ℕ)) → MayAct call state of rule

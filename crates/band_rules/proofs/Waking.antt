@@ -1,14 +1,14 @@
--- A call wakes those that waited before it and are granted after it, and nobody where it gives nothing back. A refused call changes nothing.
-use Rattle.std.proofs.Common.{◌≡◌, ℕ, true, false, List, [], ◌∷◌, ◌++◌, refl, sym, ap, ap₂, ◌∙◌, subst, append-nil}
+-- A call wakes those that waited before it and are granted or ended after it, and nobody where it gives nothing back. A refused call changes nothing.
+use Rattle.std.proofs.Common.{◌≡◌, ℕ, true, false, ◌||◌, List, [], ◌∷◌, ◌++◌, refl, sym, ap, ap₂, ◌∙◌, subst, append-nil}
 use Rattle.std.specs.List.{AllByRecursion}
 use Rattle.std.proofs.lemmas.Bool.{cond-true, cond-false}
 use Rattle.std.specs.Str.{bytes_eq}
 use Rattle.band_base.specs.declared.refusal.Refusal.{Refusal}
-use Rattle.band_balance.specs.Laws.{granted_between, GrantsAFront}
+use Rattle.band_balance.specs.Laws.{told_between, GrantsAFront}
 use Rattle.band_balance.specs.Line.{Waiting}
 use Rattle.band_balance.specs.Object.{Object, Answer, Done}
 use Rattle.band_balance.specs.Rule.{Rule, act, leaver}
-use Rattle.band_balance.proofs.Fronts.{granted-same, front-same}
+use Rattle.band_balance.proofs.Fronts.{told-same, front-same}
 use Rattle.band_balance.proofs.Rules.{bytes_told, woken-act, nobody-act, front-act}
 use Rattle.band_balance.proofs.Settle.{wakers}
 use Rattle.band_script.specs.declared.call.Call.{Call}
@@ -17,7 +17,7 @@ use Rattle.band_rules.specs.Plan.{Plan, Refuse, Make, Act, plan}
 use Rattle.band_rules.specs.Script.{state_after}
 use Rattle.band_rules.specs.State.{State, Named, Tag}
 use Rattle.band_rules.specs.Step.{reply_of, perform, with_object, step}
-use Rattle.band_rules.specs.Woken.{granted_now, WakesTheGranted, leaver_by, EachGrantsAFront, RefusesWhole, may_grant}
+use Rattle.band_rules.specs.Woken.{told_now, WakesWhoIsTold, leaver_by, EachGrantsAFront, RefusesWhole, may_grant, may_wake}
 use Rattle.band_rules.specs.Order.{Sound, NamesDiffer, IsInOrder}
 use Rattle.band_rules.proofs.Runs.{of_step, in_order-after}
 use Rattle.band_rules.proofs.States.{IsAt, here, later, with_object_here, with_object_later}
@@ -25,24 +25,24 @@ use Rattle.band_rules.proofs.States.{IsAt, here, later, with_object_here, with_o
 abbrev AllSound : State → Type 0
 AllSound state = AllByRecursion Sound state
 
--- Nobody is granted in a state that stays, to which a new object may come; where one object changes, those are granted that it grants.
-granted_now-push : (state more : State) → AllSound state → granted_now state (state ++ more) ≡ []
-granted_now-push [] more sound = refl
-granted_now-push (first ∷ rest) more sound =
-    ap₂ (λ (xs ys : List (Waiting Tag)). xs ++ ys) (granted-same bytes_eq bytes_told first.object sound.0) (granted_now-push rest more sound.1)
+-- Nobody is told in a state that stays, to which a new object may come; where one object changes, those are told that it tells.
+told_now-push : (state more : State) → AllSound state → told_now state (state ++ more) ≡ []
+told_now-push [] more sound = refl
+told_now-push (first ∷ rest) more sound =
+    ap₂ (λ (xs ys : List (Waiting Tag)). xs ++ ys) (told-same bytes_eq bytes_told first.object sound.0) (told_now-push rest more sound.1)
 
-granted_now-same : (state : State) → AllSound state → granted_now state state ≡ []
-granted_now-same state sound = ap (granted_now state) (sym (append-nil state)) ∙ granted_now-push state [] sound
+told_now-same : (state : State) → AllSound state → told_now state state ≡ []
+told_now-same state sound = ap (told_now state) (sym (append-nil state)) ∙ told_now-push state [] sound
 
-granted_now-with_object : (object : Object Tag) {of : Named} {state : State} → IsAt of state → AllSound state
-    → granted_now state (with_object of.name object state) ≡ granted_between bytes_eq of.object.line object.line
-granted_now-with_object object {of = of} (here {rest = rest}) sound =
-    ap (granted_now (of ∷ rest)) (with_object_here of object rest)
-    ∙ ap (λ (ws : List (Waiting Tag)). granted_between bytes_eq of.object.line object.line ++ ws) (granted_now-same rest sound.1)
-    ∙ append-nil (granted_between bytes_eq of.object.line object.line)
-granted_now-with_object object {of = of} (later {first = first} {rest = rest} apart at) sound =
-    ap (granted_now (first ∷ rest)) (with_object_later of first object rest apart)
-    ∙ ap₂ (λ (xs ys : List (Waiting Tag)). xs ++ ys) (granted-same bytes_eq bytes_told first.object sound.0) (granted_now-with_object object at sound.1)
+told_now-with_object : (object : Object Tag) {of : Named} {state : State} → IsAt of state → AllSound state
+    → told_now state (with_object of.name object state) ≡ told_between bytes_eq of.object object
+told_now-with_object object {of = of} (here {rest = rest}) sound =
+    ap (told_now (of ∷ rest)) (with_object_here of object rest)
+    ∙ ap (λ (ws : List (Waiting Tag)). told_between bytes_eq of.object object ++ ws) (told_now-same rest sound.1)
+    ∙ append-nil (told_between bytes_eq of.object object)
+told_now-with_object object {of = of} (later {first = first} {rest = rest} apart at) sound =
+    ap (told_now (first ∷ rest)) (with_object_later of first object rest apart)
+    ∙ ap₂ (λ (xs ys : List (Waiting Tag)). xs ++ ys) (told-same bytes_eq bytes_told first.object sound.0) (told_now-with_object object at sound.1)
 
 front-push : (plan : Plan) → ((named : Named) → leaver_by plan named ≡ (λ tag. false)) → (state more : State) → AllSound state → EachGrantsAFront plan state (state ++ more)
 front-push plan nobody [] more sound = tt
@@ -72,19 +72,19 @@ front-with_object rule object {of = of} (later {first = first} {rest = rest} apa
     )
 
 module _ (state : State) (is : IsInOrder state) (call : Call) where
-  wakes : WakesTheGranted state (step call state)
+  wakes : WakesWhoIsTold state (step call state)
   wakes =
-      of_step state is call (λ plan effect. WakesTheGranted state effect)
-      (λ refusal. sym (ap wakers (granted_now-same state is.sound)))
-      (λ made object may. sym (ap wakers (granted_now-push state (record { name = made; object = object } ∷ []) is.sound)))
+      of_step state is call (λ plan effect. WakesWhoIsTold state effect)
+      (λ refusal. sym (ap wakers (told_now-same state is.sound)))
+      (λ made object may. sym (ap wakers (told_now-push state (record { name = made; object = object } ∷ []) is.sound)))
       (λ of rule may sound.
       woken-act bytes_eq bytes_told rule of.object may.allowed sound
-      ∙ sym (ap wakers (granted_now-with_object (act bytes_eq rule of.object).object may.at is.sound)))
+      ∙ sym (ap wakers (told_now-with_object (act bytes_eq rule of.object).object may.at is.sound)))
 
-  nobody : may_grant call ≡ false → (step call state).woken ≡ []
+  nobody : may_wake call ≡ false → (step call state).woken ≡ []
   nobody none =
       of_step state is call (λ plan effect. effect.woken ≡ []) (λ refusal. refl) (λ made object may. refl)
-      (λ of rule may sound. nobody-act bytes_eq bytes_told rule of.object may.allowed sound (may.gives ∙ none))
+      (λ of rule may sound. nobody-act bytes_eq bytes_told rule of.object may.allowed sound (ap₂ (λ a b. a || b) may.gives may.ends ∙ none))
 
   front : may_grant call ≡ true → EachGrantsAFront (plan call state) state (step call state).state
   front gives =
@@ -94,10 +94,10 @@ module _ (state : State) (is : IsInOrder state) (call : Call) where
       (λ of rule may sound.
       front-with_object rule (act bytes_eq rule of.object).object may.at is.differ is.sound (front-act bytes_eq bytes_told rule of.object may.allowed sound (may.gives ∙ gives)))
 
-pub wakes-after : (calls : List Call) (call : Call) → WakesTheGranted (state_after calls) (step call (state_after calls))
+pub wakes-after : (calls : List Call) (call : Call) → WakesWhoIsTold (state_after calls) (step call (state_after calls))
 wakes-after calls call = wakes (state_after calls) (in_order-after calls) call
 
-pub nobody-after : (calls : List Call) (call : Call) → may_grant call ≡ false → (step call (state_after calls)).woken ≡ []
+pub nobody-after : (calls : List Call) (call : Call) → may_wake call ≡ false → (step call (state_after calls)).woken ≡ []
 nobody-after calls call = nobody (state_after calls) (in_order-after calls) call
 
 pub front-after : (calls : List Call) (call : Call) → may_grant call ≡ true → EachGrantsAFront (plan call (state_after calls)) (state_after calls) (step call (state_after calls)).state

@@ -1,12 +1,12 @@
 -- What a call comes to in a state: it is refused, it makes an object, or it does a rule to one. The refusals
 -- are tested in the
--- order of the lines: unknown, kind, same, taken, finished, other, overflow, debt.
+-- order of the lines: unknown, kind, same, taken, finished, other, overflow, debt, closed.
 use Rattle.std.specs.Prelude.{ℕ, ◌-◌, ◌^◌, Bool, true, false, not, if◌then◌else◌, List, Option, Some, None}
 use Rattle.std.specs.Prelude.{Result, Ok, Err}
 use Rattle.std.specs.Str.{bytes_eq}
 use Rattle.band_base.specs.declared.refusal.Refusal.{Refusal}
 use Rattle.band_base.specs.declared.refusal.Refusal.TheVariants.{Unknown, Kind, Same, Taken, Finished, Other}
-use Rattle.band_base.specs.declared.refusal.Refusal.TheVariants.{Overflow, Debt}
+use Rattle.band_base.specs.declared.refusal.Refusal.TheVariants.{Overflow, Debt, Closed}
 use Rattle.band_balance.specs.Line.{total, overflows, owes_too_much}
 use Rattle.band_balance.specs.Object.{Object, Mode, Permit, Lock, Read, Write, tag, is_of, size_of}
 use Rattle.band_balance.specs.Object.{new_object}
@@ -74,11 +74,12 @@ abbrev pub refuse_if : Bool → Refusal → Result (Unit {0}) Refusal
 refuse_if true refusal = Err refusal
 refuse_if false refusal = Ok tt
 
--- a rule on an object of which this is asked, for so much by its kind, under a name that isn't live
+-- a rule on an open object of which this is asked, for so much by its kind, under a name that isn't live
 abbrev pub naming : Mode → (objects.Kind → ℕ) → List ℕ → List ℕ → (ℕ → Rule (List ℕ)) → State → Plan
 naming mode size made of rule state = do
   one ← object_for (λ kind. is_of kind mode) (standing of state)
   _ ← refuse_if (is_taken (standing made state)) Taken
+  _ ← refuse_if one.object.closed Closed
   Act one (rule (size one.object.kind))
 
 -- the most readers at a time, where a call doesn't say
@@ -129,6 +130,9 @@ plan (calls.Reduce of n) state = do
 plan (calls.Drain of n) state = do
   one ← object_for (λ kind. is_of kind Permit) (standing of state)
   Act one (rules.Drain n)
+plan (calls.Close of) state = do
+  one ← object_for (λ kind. is_of kind Permit) (standing of state)
+  Act one rules.Close
 plan (calls.Forget name) state = do
   of ← lender Permit (standing name state)
   Act of (rules.Forget name)

@@ -1,8 +1,8 @@
 -- The state of a script: its objects by name, and what a name is in it.
 use Rattle.std.specs.Prelude.{ℕ, Bool, true, false, List, [], ◌∷◌, Option, Some, None}
 use Rattle.std.specs.Str.{bytes_eq}
-use Rattle.band_balance.specs.Line.{Entry, requests, entry_named}
-use Rattle.band_balance.specs.Object.{Object}
+use Rattle.band_balance.specs.Line.{Entry, entry_named}
+use Rattle.band_balance.specs.Object.{Object, asked}
 use Rattle.band_balance.specs.Object as objects
 use Rattle.band_balance.specs.Rule.{has_name}
 
@@ -17,14 +17,14 @@ pub record Named : Type 0 where
 abbrev pub State : Type 0
 State = List Named
 
--- What a name is: an object, a request in the line of one, or held of one.
+-- What a name is: an object, a request of one that was not answered yet, or held of one.
 pub data Standing : Type 0 where
   Absent : Standing
   AnObject : (it : Named) → Standing
   ARequest : (of : Named) (entry : Entry Tag) → Standing
   AHolding : (of : Named) (entry : Entry Tag) → Standing
 
--- by whether it is this object's name, and what has it in the line and among what is held
+-- by whether it is this object's name, and what has it among the requests and among what is held
 abbrev pub standing_at : Named → Bool → Option (Entry Tag) → Option (Entry Tag) → Standing → Standing
 standing_at named true request holding elsewhere = AnObject named
 standing_at named false (Some entry) holding elsewhere = ARequest named entry
@@ -36,6 +36,6 @@ standing name [] = Absent
 standing name (first ∷ rest) =
     let object = first.object in
     standing_at first (bytes_eq name first.name)
-    (entry_named (has_name bytes_eq name) (requests object.line))
+    (entry_named (has_name bytes_eq name) (asked object))
     (entry_named (has_name bytes_eq name) object.held)
     (standing name rest)

@@ -1,7 +1,7 @@
 -- What a call makes of a state: the reply, the wakers to wake in order, and the state afterwards.
 use Rattle.std.specs.Prelude.{ℕ, if◌then◌else◌, List, [], ◌∷◌, ◌++◌}
 use Rattle.std.specs.Str.{bytes_eq}
-use Rattle.band_balance.specs.Object.{Object, Answer, Done, Ready, Pending, Nothing, Drained, Figures}
+use Rattle.band_balance.specs.Object.{Object, Answer, Done, Ready, Pending, Nothing, Closed, Drained, Figures}
 use Rattle.band_balance.specs.Rule.{act}
 use Rattle.band_script.specs.declared.call.Call.{Call}
 use Rattle.band_rules.specs.declared.reply.Reply.{Reply}
@@ -19,6 +19,7 @@ reply_of Done = replies.Done
 reply_of Ready = replies.Ready
 reply_of Pending = replies.Pending
 reply_of Nothing = replies.Nothing
+reply_of Closed = replies.Closed
 reply_of (Drained count) = replies.Drained count
 reply_of (Figures available free waiting granted held) = replies.Figures available free waiting granted held
 

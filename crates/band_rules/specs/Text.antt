@@ -4,9 +4,10 @@ use Rattle.std.specs.Fmt.{signed_decimal}
 use Rattle.band_base.specs.declared.refusal.Refusal.{Refusal}
 use Rattle.band_base.specs.declared.refusal.Refusal.TheVariants.{Unknown, Kind, Same, Taken, Finished, Other}
 use Rattle.band_base.specs.declared.refusal.Refusal.TheVariants.{Overflow, Debt}
+use Rattle.band_base.specs.declared.refusal.Refusal.TheVariants as refusals
 use Rattle.band_rules.specs.declared.reply.Reply.{Reply}
 use Rattle.band_rules.specs.declared.reply.Reply.TheVariants.{Done, Ready, Pending, Nothing, Drained, Figures}
-use Rattle.band_rules.specs.declared.reply.Reply.TheVariants.{Refused}
+use Rattle.band_rules.specs.declared.reply.Reply.TheVariants.{Refused, Closed}
 
 abbrev pub refusal_word : Refusal → List ℕ
 refusal_word Unknown = codes "unknown"
@@ -17,6 +18,7 @@ refusal_word Finished = codes "finished"
 refusal_word Other = codes "other"
 refusal_word Overflow = codes "overflow"
 refusal_word Debt = codes "debt"
+refusal_word refusals.Closed = codes "closed"
 
 -- a reply without its newline
 abbrev pub reply_text : Reply → List ℕ
@@ -30,6 +32,7 @@ reply_text (Figures available free waiting granted held) =
     ++ codes " waiting " ++ decimal waiting
     ++ codes " granted " ++ decimal granted ++ codes " held " ++ decimal held
 reply_text (Refused refusal) = codes "refused " ++ refusal_word refusal
+reply_text Closed = codes "closed"
 
 abbrev pub wake_line : ℕ → List ℕ
 wake_line waker = codes "wake " ++ decimal waker ++ 10 ∷ []

@@ -1,9 +1,9 @@
--- Whom a call wakes: those that waited before it and are granted after it.
-use Rattle.std.specs.Prelude.{◌≡◌, Bool, true, false, if◌then◌else◌, List, [], ◌∷◌, ◌++◌, map}
+-- Whom a call wakes: those that waited before it and are granted or ended after it.
+use Rattle.std.specs.Prelude.{◌≡◌, Bool, true, false, ◌||◌, if◌then◌else◌, List, [], ◌∷◌, ◌++◌, map}
 use Rattle.std.specs.Str.{bytes_eq}
 use Rattle.band_base.specs.declared.refusal.Refusal.{Refusal}
 use Rattle.band_balance.specs.Line.{Waiting}
-use Rattle.band_balance.specs.Laws.{granted_between, GrantsAFront}
+use Rattle.band_balance.specs.Laws.{told_between, GrantsAFront}
 use Rattle.band_balance.specs.Rule.{leaver}
 use Rattle.band_script.specs.declared.call.Call.{Call}
 use Rattle.band_script.specs.declared.call.Call.TheVariants as calls
@@ -12,17 +12,17 @@ use Rattle.band_rules.specs.Plan.{Plan, Act}
 use Rattle.band_rules.specs.State.{State, Named, Tag}
 use Rattle.band_rules.specs.Step.{Effect}
 
--- those that waited in a line before and are granted after, in order; an object stays at its place, and a new
--- one comes last
-abbrev pub granted_now : State → State → List (Waiting Tag)
-granted_now [] after = []
-granted_now (first ∷ rest) [] = []
-granted_now (first ∷ rest) (now ∷ later) =
-    granted_between bytes_eq first.object.line now.object.line ++ granted_now rest later
+-- those that waited in a line before and are granted or ended after, in order; an object stays at its place,
+-- and a new one comes last
+abbrev pub told_now : State → State → List (Waiting Tag)
+told_now [] after = []
+told_now (first ∷ rest) [] = []
+told_now (first ∷ rest) (now ∷ later) =
+    told_between bytes_eq first.object now.object ++ told_now rest later
 
 -- those are woken, by the wakers that their lines keep for them
-abbrev pub WakesTheGranted : State → Effect → Type 0
-WakesTheGranted state effect = effect.woken ≡ map (λ w. w.waker) (granted_now state effect.state)
+abbrev pub WakesWhoIsTold : State → Effect → Type 0
+WakesWhoIsTold state effect = effect.woken ≡ map (λ w. w.waker) (told_now state effect.state)
 
 -- who leaves the line of an object: whoever leaves by the rule that is done to it, and nobody where none is
 abbrev pub leaver_by : Plan → Named → Tag → Bool
@@ -49,3 +49,12 @@ may_grant (calls.Release of n) = true
 may_grant (calls.Drop name) = true
 may_grant (calls.Downgrade name) = true
 may_grant call = false
+
+-- the calls that end those that wait
+abbrev pub closes : Call → Bool
+closes (calls.Close of) = true
+closes call = false
+
+-- the calls that may wake somebody
+abbrev pub may_wake : Call → Bool
+may_wake call = may_grant call || closes call

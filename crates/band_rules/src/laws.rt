@@ -1,7 +1,7 @@
 //! Laws of scripts.
 ghost use Rattle.std.specs.List.{AllByRecursion};
 ghost use Rattle.std.specs.Prelude.{◌≡◌, List, [], ℕ, true, false, pos, ◌+ℤ◌};
-ghost use Rattle.band_balance.specs.Laws.{IsExclusive, IsWithin};
+ghost use Rattle.band_balance.specs.Laws.{EndsAs, IsExclusive, IsWithin};
 ghost use Rattle.band_balance.specs.Settled.{HeadWaits};
 ghost use Rattle.band_script.specs.Call.{ForReaders};
 ghost use Rattle.band_script.specs.declared.call.Call.{Call as TheCall};
@@ -12,7 +12,7 @@ ghost use Rattle.band_rules.specs.Plan.{plan};
 ghost use Rattle.band_rules.specs.Script.{calls_of, state_after};
 ghost use Rattle.band_rules.specs.State.{Named};
 ghost use Rattle.band_rules.specs.Step.{step};
-ghost use Rattle.band_rules.specs.Woken.{EachGrantsAFront, RefusesWhole, WakesTheGranted, may_grant};
+ghost use Rattle.band_rules.specs.Woken.{EachGrantsAFront, RefusesWhole, WakesWhoIsTold, may_grant, may_wake};
 
 /// After any calls, what an object was made with and what was released to it is what is free, granted and held of it, and
 /// what was reduced, drained and forgotten.
@@ -40,6 +40,12 @@ pub fn heads_wait()
         (state_after calls) }
 {}
 
+/// After any calls, of an object that is not closed nobody is ended, and of a closed one, which is a semaphore, nobody waits.
+pub fn who_waits_is_ended()
+    ensures { (calls : List TheCall)
+        → AllByRecursion (λ (named : Named). EndsAs named.object.closed named.object) (state_after calls) }
+{}
+
 /// The numbers in the calls of a script are below 2 to the 64th.
 pub fn numbers_fit()
     ensures { (lines : List (List ℕ)) → AllByRecursion HasNumbers (calls_of lines) }
@@ -61,16 +67,16 @@ pub fn lines_stand_in_turn()
         → AllByRecursion (λ (named : Named). GrantedInTurn calls named.object.line) (state_after calls) }
 {}
 
-/// A call after any calls wakes those that waited before it and are granted after it, in the order of their line, each once and by
-/// the waker that the line keeps for it.
-pub fn wakes_name_the_granted()
+/// A call after any calls wakes those that waited before it and are granted or ended after it, in the order of their line, each once
+/// and by the waker that the line keeps for it.
+pub fn wakes_name_who_is_told()
     ensures { (calls : List TheCall) → (call : TheCall)
-        → WakesTheGranted (state_after calls) (step call (state_after calls)) }
+        → WakesWhoIsTold (state_after calls) (step call (state_after calls)) }
 {}
 
-/// A call after any calls wakes nobody, unless it is a release, a drop or a downgrade.
-pub fn only_giving_back_wakes()
-    ensures { (calls : List TheCall) → (call : TheCall) → may_grant call ≡ false
+/// A call after any calls wakes nobody, unless it is a release, a drop, a downgrade or a close.
+pub fn only_giving_back_and_closing_wake()
+    ensures { (calls : List TheCall) → (call : TheCall) → may_wake call ≡ false
         → (step call (state_after calls)).woken ≡ [] }
 {}
 

@@ -25,4 +25,6 @@ pub enum Reply {
     },
     /// The call changed nothing and woke nobody.
     Refused(Refusal),
+    /// The request waited when its semaphore was closed. Its name ends.
+    Closed,
 }

@@ -83,7 +83,7 @@ first_and_others word rest call one is =
 abbrev counts_after : List ℕ → ℕ × ℕ
 counts_after word =
     let is_among = list_any (bytes_eq word) in
-    if is_among (codes "mutex" ∷ codes "drop" ∷ codes "forget" ∷ codes "downgrade" ∷ codes "status" ∷ []) then (1, 0)
+    if is_among (codes "mutex" ∷ codes "drop" ∷ codes "close" ∷ codes "forget" ∷ codes "downgrade" ∷ codes "status" ∷ []) then (1, 0)
     else if is_among (codes "trylock" ∷ codes "tryread" ∷ codes "trywrite" ∷ codes "merge" ∷ []) then (2, 0)
     else if is_among (codes "lock" ∷ codes "read" ∷ codes "write" ∷ codes "try" ∷ codes "split" ∷ []) then (2, 1)
     else if is_among (codes "ask" ∷ []) then (2, 2)

@@ -1,4 +1,5 @@
 pub mod Decoding
+pub mod FrontLemmas
 pub mod Fronts
 pub mod GrammarLemmas
 pub mod Lengths

@@ -20,7 +20,7 @@ use Rattle.band_script.proofs.WordLemmas.{HasNoSpace, no_space}
 use Rattle.band_script.proofs.Fronts.{front_of_word, passes_front}
 use Rattle.band_script.specs.Inner.Stored.{padded, name_in}
 
-name_byte_is_ascii : (byte : ℕ) → is_name_byte byte ≡ true → byte < 128
+pub name_byte_is_ascii : (byte : ℕ) → is_name_byte byte ≡ true → byte < 128
 name_byte_is_ascii byte is = grind (arith, nat_tests)
 
 pub name_is_ascii : (word : List ℕ) → is_name word ≡ true → IsAscii word

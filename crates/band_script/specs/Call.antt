@@ -5,9 +5,9 @@ use Rattle.std.specs.Fmt.{decimal}
 use Rattle.std.specs.List.{list_all}
 use Rattle.band_script.specs.declared.call.Call.{Call}
 use Rattle.band_script.specs.declared.call.Call.TheVariants.{Sem, Mutex, Rw, Ask, Lock, Read, Write, Poll}
-use Rattle.band_script.specs.declared.call.Call.TheVariants.{Drop, Try}
-use Rattle.band_script.specs.declared.call.Call.TheVariants.{TryLock, TryRead, TryWrite, Release, Reduce}
-use Rattle.band_script.specs.declared.call.Call.TheVariants.{Drain, Forget, Split, Merge, Downgrade, Status}
+use Rattle.band_script.specs.declared.call.Call.TheVariants.{Drop, Try, TryLock, TryRead, TryWrite}
+use Rattle.band_script.specs.declared.call.Call.TheVariants.{Release, Reduce, Drain, Close}
+use Rattle.band_script.specs.declared.call.Call.TheVariants.{Forget, Split, Merge, Downgrade, Status}
 use Rattle.band_script.specs.Name.{is_name}
 use Rattle.band_script.specs.Number.{is_number}
 
@@ -38,6 +38,7 @@ parts (TryWrite made of) = written (codes "trywrite") (made ∷ of ∷ []) []
 parts (Release of n) = written (codes "release") (of ∷ []) (n ∷ [])
 parts (Reduce of n) = written (codes "reduce") (of ∷ []) (n ∷ [])
 parts (Drain of n) = written (codes "drain") (of ∷ []) (n ∷ [])
+parts (Close of) = written (codes "close") (of ∷ []) []
 parts (Forget name) = written (codes "forget") (name ∷ []) []
 parts (Split name made n) = written (codes "split") (name ∷ made ∷ []) (n ∷ [])
 parts (Merge kept spent) = written (codes "merge") (kept ∷ spent ∷ []) []

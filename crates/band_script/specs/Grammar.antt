@@ -5,9 +5,9 @@ use Rattle.std.specs.Str.{bytes_eq}
 use Rattle.std.specs.Str.Parse.{digits_value}
 use Rattle.band_script.specs.declared.call.Call.{Call}
 use Rattle.band_script.specs.declared.call.Call.TheVariants.{Sem, Mutex, Rw, Ask, Lock, Read, Write, Poll}
-use Rattle.band_script.specs.declared.call.Call.TheVariants.{Drop, Try}
-use Rattle.band_script.specs.declared.call.Call.TheVariants.{TryLock, TryRead, TryWrite, Release, Reduce}
-use Rattle.band_script.specs.declared.call.Call.TheVariants.{Drain, Forget, Split, Merge, Downgrade, Status}
+use Rattle.band_script.specs.declared.call.Call.TheVariants.{Drop, Try, TryLock, TryRead, TryWrite}
+use Rattle.band_script.specs.declared.call.Call.TheVariants.{Release, Reduce, Drain, Close}
+use Rattle.band_script.specs.declared.call.Call.TheVariants.{Forget, Split, Merge, Downgrade, Status}
 use Rattle.band_script.specs.Call.{spelling, is_call, IsCall}
 
 -- the words of a line: what stands between its spaces
@@ -28,7 +28,7 @@ is_line line call = bytes_eq line (line_of call) && is_call call
 
 -- the calls of so many words, with these as their names and numbers, whatever they are
 abbrev pub readings : List (List ℕ) → List Call
-readings (form ∷ a ∷ []) = Mutex a ∷ Rw a None ∷ Drop a ∷ Forget a ∷ Downgrade a ∷ Status a ∷ []
+readings (form ∷ a ∷ []) = Mutex a ∷ Rw a None ∷ Drop a ∷ Close a ∷ Forget a ∷ Downgrade a ∷ Status a ∷ []
 readings (form ∷ a ∷ b ∷ []) =
     let n = digits_value 10 b in
     Sem a n ∷ Rw a (Some n) ∷ Poll a n ∷ Release a n ∷ Reduce a n ∷ Drain a n

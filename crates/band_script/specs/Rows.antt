@@ -2,9 +2,9 @@
 use Rattle.std.specs.Prelude.{◌≡◌, ℕ, List, [], ◌∷◌, codes, map, Option, Some, None}
 use Rattle.band_script.specs.declared.call.Call.{Call}
 use Rattle.band_script.specs.declared.call.Call.TheVariants.{Sem, Mutex, Rw, Ask, Lock, Read, Write, Poll}
-use Rattle.band_script.specs.declared.call.Call.TheVariants.{Drop, Try}
-use Rattle.band_script.specs.declared.call.Call.TheVariants.{TryLock, TryRead, TryWrite, Release, Reduce}
-use Rattle.band_script.specs.declared.call.Call.TheVariants.{Drain, Forget, Split, Merge, Downgrade, Status}
+use Rattle.band_script.specs.declared.call.Call.TheVariants.{Drop, Try, TryLock, TryRead, TryWrite}
+use Rattle.band_script.specs.declared.call.Call.TheVariants.{Release, Reduce, Drain, Close}
+use Rattle.band_script.specs.declared.call.Call.TheVariants.{Forget, Split, Merge, Downgrade, Status}
 use Rattle.band_script.specs.Grammar.{call_of}
 
 abbrev pub calls : List (List ℕ × Option Call)
@@ -29,6 +29,7 @@ calls =
     ∷ (codes "release s 0", Some (Release (codes "s") 0))
     ∷ (codes "reduce s 18446744073709551615", Some (Reduce (codes "s") 18446744073709551615))
     ∷ (codes "drain s 10", Some (Drain (codes "s") 10))
+    ∷ (codes "close s", Some (Close (codes "s")))
     ∷ (codes "forget p", Some (Forget (codes "p")))
     ∷ (codes "split p q 2", Some (Split (codes "p") (codes "q") 2))
     ∷ (codes "merge p q", Some (Merge (codes "p") (codes "q")))
@@ -48,6 +49,7 @@ no_calls =
     ∷ codes "sem s 1 2" ∷ codes "semi s 1" ∷ codes "Drop s" ∷ codes "drop s s"
     ∷ codes "drop aaaaaaaabbbbbbbbccccccccdddddddde" ∷ codes "poll a" ∷ codes "ask a s 1"
     ∷ codes "ask a s x 1" ∷ codes "try p s" ∷ codes "try p s 3 7" ∷ codes "release s" ∷ codes "drain 1"
+    ∷ codes "close" ∷ codes "close s 1"
     ∷ codes "split p 1" ∷ codes "merge p" ∷ codes "merge p q 1" ∷ codes "mutex" ∷ codes "mutex m 1"
     ∷ codes "rw" ∷ codes "rw l 0" ∷ codes "rw l 01" ∷ codes "rw l " ∷ codes "rw l 1 2"
     ∷ codes "lock a m" ∷ codes "lock a m 1 2" ∷ codes "read a 1" ∷ codes "write a l x"

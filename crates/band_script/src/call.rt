@@ -90,6 +90,10 @@ pub enum Call {
         of: Name,
         n: u64,
     },
+    /// `close S`: closes a semaphore.
+    Close {
+        of: Name,
+    },
     /// `forget P`: ends a permit, and nothing comes back.
     Forget {
         name: Name,

@@ -20,6 +20,7 @@ pub(crate) enum Form {
 pub(crate) enum OneName {
     Mutex,
     Drop,
+    Close,
     Forget,
     Downgrade,
     Status,
@@ -33,6 +34,7 @@ impl OneName {
         match self {
             OneName::Mutex => Call::Mutex { made: name },
             OneName::Drop => Call::Drop { name },
+            OneName::Close => Call::Close { of: name },
             OneName::Forget => Call::Forget { name },
             OneName::Downgrade => Call::Downgrade { name },
             OneName::Status => Call::Status { name },
@@ -150,6 +152,7 @@ pub(crate) fn split_form(line: &[u8]) -> Option<(Form, &[u8])>
 {
     match line {
         [b'a', rest @ ..] => after_a(rest),
+        [b'c', rest @ ..] => after_c(rest),
         [b'd', rest @ ..] => after_d(rest),
         [b'f', rest @ ..] => after_f(rest),
         [b'l', rest @ ..] => after_l(rest),
@@ -168,6 +171,15 @@ fn after_a(rest: &[u8]) -> Option<(Form, &[u8])>
 {
     match rest {
         [b's', b'k', b' ', rest @ ..] => Some((Form::Ask, rest)),
+        _ => None,
+    }
+}
+
+fn after_c(rest: &[u8]) -> Option<(Form, &[u8])>
+    ensures { ReadsForm (99 ∷ rest.now) result }
+{
+    match rest {
+        [b'l', b'o', b's', b'e', b' ', rest @ ..] => Some((Form::OneName(OneName::Close), rest)),
         _ => None,
     }
 }

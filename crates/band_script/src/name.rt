@@ -8,6 +8,7 @@ ghost use Rattle.band_script.specs.Inner.Reading.{ReadsFrontName};
 ghost use Rattle.band_script.specs.Inner.Stored.{name_in, padded};
 ghost use Rattle.band_script.specs.Name.{is_name_byte, IsName};
 ghost use Rattle.std.specs.List.{prefix_len};
+ghost use Rattle.std.specs.Slice.Scan.{big_endian};
 
 use crate::text::text_of;
 use std::alloc::AllocError;
@@ -170,6 +171,18 @@ impl Ord for Name {
     ghost matches_eq = { λ a b. texts_ties a b };
 
     fn cmp(&self, other: &Self) -> Ordering {
+        let mine = front(&self.bytes);
+        let others = front(&other.bytes);
+        if mine != others {
+            return mine.cmp(&others);
+        }
         self.bytes.cmp(&other.bytes)
     }
+}
+
+/// The first eight bytes as one number. Where two of them differ, they compare as the bytes do.
+fn front(bytes: &[u8; 32]) -> u64
+    ensures { result ≡ big_endian 0 (take 8 bytes.now) }
+{
+    u64::from_be_bytes(*bytes.first_chunk().unwrap())
 }

@@ -18,6 +18,7 @@ fn shows_calls(rt: HostRuntime) -> Result<(), Fail> {
             "split aaaaaaaabbbbbbbbccccccccdddddddd z 10",
             "Some(Split { name: \"aaaaaaaabbbbbbbbccccccccdddddddd\", made: \"z\", n: 10 })",
         ),
+        ("close s", "Some(Close { of: \"s\" })"),
         ("downgrade g", "Some(Downgrade { name: \"g\" })"),
         ("downgrade g 1", "None"),
         ("drop aaaaaaaabbbbbbbbccccccccdddddddde", "None"),

@@ -41,11 +41,13 @@ module _ (old new : SemaphoreState) where
   KeepsHeld-polls request request' waker result polled = at request.stage result polled
     where
       at : (stage : Stage) (result : Result (Poll Permit) PollError) → PollsAt stage request waker old result request' new → KeepsHeld old new
-      at NotPolled (Ok (Ready permit)) (served, gives, takes, left) = keeps _ takes refl (some_more request.size)
-      at NotPolled (Ok Pending) (waits, (slot, fresh, joins, left)) = keeps _ joins refl none_fewer
-      at NotPolled (Err errors.NoMemory) (waits, same, left) = keeps _ same refl none_fewer
+      at NotPolled (Ok (Ready permit)) (is, served, gives, takes, left) = keeps _ takes refl (some_more request.size)
+      at NotPolled (Ok Pending) (is, waits, (slot, fresh, joins, left)) = keeps _ joins refl none_fewer
+      at NotPolled (Err errors.NoMemory) (is, waits, same, left) = keeps _ same refl none_fewer
+      at NotPolled (Err errors.Closed) (is, same, left) = keeps _ same refl none_fewer
       at NotPolled (Err error) polled = absurd polled
-      at (Joined slot) (Ok (Ready permit)) (there, gives, receives, left) = keeps _ receives refl (some_more request.size)
-      at (Joined slot) (Ok Pending) (none, leaves, left) = keeps _ leaves refl none_fewer
+      at (Joined slot) (Ok (Ready permit)) (live, there, gives, receives, left) = keeps _ receives refl (some_more request.size)
+      at (Joined slot) (Ok Pending) (live, none, leaves, left) = keeps _ leaves refl none_fewer
+      at (Joined slot) (Err errors.Closed) (there, hears, left) = keeps _ hears refl none_fewer
       at (Joined slot) (Err error) polled = absurd polled
       at Finished result (refused, same, left) = keeps _ same refl none_fewer

@@ -11,10 +11,10 @@ use Rattle.band_line.specs.WaitList.{waiter_at, is_linked}
 use Rattle.band_partial.specs.PartialLine.{Node, AreInOrder, StandsFor, HasNoShare, requests_of}
 use Rattle.band_partial.proofs.Follows.{available-shown, head_waits-shown}
 use Rattle.band_partial.proofs.Nodes.{by_nodes}
-use Rattle.band_row.specs.Row.{RowState, IsRow, IsInPlace, granted_to, granted_of, size_by, linked_nodes, part}
+use Rattle.band_row.specs.Row.{RowState, IsRow, IsInPlace, granted_to, granted_of, ended_of_node, ended_of, size_by, linked_nodes, part}
 use Rattle.band_row.specs.declared.wait_node.WaitNode.{WaitNode}
 use Rattle.band_row.proofs.Granted.{IsNamed, each-named}
-use Rattle.band_row.proofs.Linked.{linked-needs, requests-distinct}
+use Rattle.band_row.proofs.Linked.{linked-needs, asked-distinct}
 use Rattle.band_row.proofs.Moving.{needs_some}
 use Rattle.band_sem.specs.declared.store.Store.{Store}
 use Rattle.band_sem.specs.Semaphore.{IsLawful, is_slot}
@@ -38,11 +38,11 @@ waiting_asks = by_nodes (λ nodes. AreInOrder nodes → Asks (map entry_of (requ
     some : (size needed : ℕ) → 0 < needed → needed ≤ size → 0 < size
     some size needed more fits = omega arith
 
--- who was granted asked for something
+-- who was granted or ended asked for something
 module _ (row : RowState) (sound : IsRow row) where
-  asked : (e : Entry ℕ) (found : Option WaitNode) → waiter_at e.name row.list ≡ found → size_by granted_to found ≡ Some e.size → 0 < e.size
-  asked e None here size = absurd (cc)
-  asked e (Some node) here size = by_link (is_linked e.name row.list) refl
+  granted_asks_at : (e : Entry ℕ) (found : Option WaitNode) → waiter_at e.name row.list ≡ found → size_by granted_to found ≡ Some e.size → 0 < e.size
+  granted_asks_at e None here size = absurd (cc)
+  granted_asks_at e (Some node) here size = by_link (is_linked e.name row.list) refl
     where
       needs_none : (b : Bool) → (node.needed == 0) ≡ b → cond b (Some node.size) None ≡ Some e.size → 0 < node.size → 0 < e.size
       needs_none true is same more = let sizes : node.size ≡ e.size = cc in subst (λ n. 0 < n) sizes more
@@ -57,18 +57,38 @@ module _ (row : RowState) (sound : IsRow row) where
   granted_asks : Asks (granted_of row.list)
   granted_asks =
       all-weaker (IsNamed granted_to 0 row.list.nodes.slots) (λ (e : Entry ℕ). 0 < e.size)
-      (λ e named. asked e (waiter_at e.name row.list) refl (named.size e.name (omega arith)))
+      (λ e named. granted_asks_at e (waiter_at e.name row.list) refl (named.size e.name (omega arith)))
       (granted_of row.list) (each-named granted_to 0 row.list.nodes.slots)
 
-  each_asks : Asks (granted_of row.list ++ map entry_of (requests_of (linked_nodes row.list)))
+  ended_asks_at : (e : Entry ℕ) (found : Option WaitNode) → waiter_at e.name row.list ≡ found → size_by ended_of_node found ≡ Some e.size → 0 < e.size
+  ended_asks_at e None here size = absurd (cc)
+  ended_asks_at e (Some node) here size = by_end node.ended refl size
+    where
+      by_link : (b : Bool) → is_linked e.name row.list ≡ b → node.ended ≡ true → 0 < node.size
+      by_link true linked is = let never : node.ended ≡ false = subst (λ b. IsInPlace b node) linked (sound.each e.name node here) in absurd (cc)
+      by_link false out is = (subst (λ b. IsInPlace b node) out (sound.each e.name node here)).some
+
+      by_end : (b : Bool) → node.ended ≡ b → cond b (Some node.size) None ≡ Some e.size → 0 < e.size
+      by_end true is same = let sizes : node.size ≡ e.size = cc in subst (λ n. 0 < n) sizes (by_link (is_linked e.name row.list) refl is)
+      by_end false is same = absurd (cc)
+
+  ended_asks : Asks (ended_of row.list)
+  ended_asks =
+      all-weaker (IsNamed ended_of_node 0 row.list.nodes.slots) (λ (e : Entry ℕ). 0 < e.size)
+      (λ e named. ended_asks_at e (waiter_at e.name row.list) refl (named.size e.name (omega arith)))
+      (ended_of row.list) (each-named ended_of_node 0 row.list.nodes.slots)
+
+  each_asks : Asks (ended_of row.list ++ (granted_of row.list ++ map entry_of (requests_of (linked_nodes row.list))))
   each_asks =
-      all_of_both (λ (e : Entry ℕ). 0 < e.size) (granted_of row.list) (map entry_of (requests_of (linked_nodes row.list)))
-      granted_asks (waiting_asks (linked_nodes row.list) sound.in_order)
+      all_of_both (λ (e : Entry ℕ). 0 < e.size) (ended_of row.list) (granted_of row.list ++ map entry_of (requests_of (linked_nodes row.list))) ended_asks
+      (all_of_both (λ (e : Entry ℕ). 0 < e.size) (granted_of row.list) (map entry_of (requests_of (linked_nodes row.list)))
+      granted_asks (waiting_asks (linked_nodes row.list) sound.in_order))
 
 pub lawful_when_sound : (store : Store) → IsSound store → IsLawful (state_of store)
 lawful_when_sound store h = record {
-  one_each = requests-distinct store.row h.row.row;
-  each_asks = each_asks store.row h.row.row;
+  one_each = asked-distinct store.row h.row;
+  each_asks = each_asks store.row h.row;
+  closing = h.closing;
   head_waits = head_waits-shown (part store.row) h.settled;
   in_hand = h.fit.in_hand;
   in_all = h.fit.in_all;
@@ -92,8 +112,8 @@ pub shows_line : (store : Store) → IsSound store → ShowsLine (state_of store
 shows_line store sound = record {
   stands = subst (λ (row : RowState). StandsFor (line_in store) (part row)) (sym same) (record { shown = refl; settled = sound.settled });
   debts = refl;
-  row = subst IsRow (sym same) sound.row.row;
-  none_ended = sound.row.none_ended;
+  row = subst IsRow (sym same) sound.row;
+  ended = refl;
 }
   where
     same : row_of (state_of store) store.row.list ≡ store.row

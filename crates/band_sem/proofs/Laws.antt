@@ -1,5 +1,5 @@
 -- The calls keep the order of the line, and who leaves it changes nothing for the others.
-use Rattle.std.proofs.Common.{◌≡◌, refl, ℕ, ◌+◌, ◌≤◌, Bool, true, false, cond, List, [], ◌∷◌, ◌++◌, map, pos, ◌+ℤ◌, Option, Some, None, Result, Ok, Err, inl, inr, nat_eq, arith, ap, ap₂, sym, ◌∙◌, append-nil}
+use Rattle.std.proofs.Common.{◌≡◌, refl, ℕ, Bool, true, false, cond, List, [], ◌∷◌, ◌++◌, map, pos, ◌+ℤ◌, Option, Some, None, Result, Ok, Err, inl, inr, nat_eq, ap, ap₂, sym, ◌∙◌, append-nil}
 use Rattle.std.specs.List.{IsDistinct}
 use Rattle.std.specs.List.Sorted.{IsPermutation}
 use Rattle.std.proofs.lemmas.List.{map-append}
@@ -7,12 +7,13 @@ use Rattle.std.proofs.lemmas.List.Sorted.{IsPermutation-refl, IsPermutation-tran
 use Rattle.band_balance.specs.Line.{Entry, Waiting, Line, AreAlike, entry_of, requests, total, add_permits, take_permits, give_back, join, entry_named, without, without_waiting, poll_granted, poll_waiting, settle, withdraw, cancel}
 use Rattle.band_balance.proofs.Alike.{total-alike, requests-alike}
 use Rattle.band_balance.proofs.Settle.{passed, left, passed-left, le_false_from_lt, granted-settle, waiting-settle, wakes-settle, free-total-cancel}
-use Rattle.band_balance.proofs.Requests.{count_named, count_named-append, entry_named-none, entries-leave_waker, entries-without_waiting, requests-cancel}
-use Rattle.band_balance.proofs.Distinct.{once}
+use Rattle.band_balance.proofs.Requests.{entries-leave_waker, entries-without_waiting, requests-cancel}
 use Rattle.band_base.specs.declared.poll.Poll.{Poll}
 use Rattle.band_base.specs.declared.poll.Poll.TheVariants.{Ready, Pending}
 use Rattle.band_base.specs.declared.poll.PollError.{PollError}
 use Rattle.band_base.specs.declared.poll.PollError.TheVariants as errors
+use Rattle.band_sem.proofs.Slots.{stands_once, distinct_behind, without-nobody}
+use Rattle.band_balance.proofs.Requests.{not_behind}
 use Rattle.band_sem.specs.Laws.{IsSublist, KeepsOrder, IsBehind, MakesRoomFor, LeavesOthers}
 use Rattle.band_sem.specs.Permit.{Permit}
 use Rattle.band_sem.specs.Request.{Request}
@@ -139,24 +140,18 @@ module _ (old new : SemaphoreState) where
   unchanged same = ordered_as old same (KeepsOrder-same old.line old.line refl)
 
   pub KeepsOrder-first_poll : (request request' : Request) (waker : ℕ) (result : Result (Poll Permit) PollError) → FirstPoll request waker old result request' new → KeepsOrder old.line new.line
-  KeepsOrder-first_poll request request' waker (Ok (Ready permit)) h = ordered_as _ h.2 (stays old.line (take_permits request.size old.line) refl refl)
-  KeepsOrder-first_poll request request' waker (Ok Pending) h = ordered_as _ h.1.2 (KeepsOrder-join h.1.0 request.size waker old.line h.1.1)
-  KeepsOrder-first_poll request request' waker (Err errors.NoMemory) h = unchanged h.1
+  KeepsOrder-first_poll request request' waker (Ok (Ready permit)) h = ordered_as _ h.3 (stays old.line (take_permits request.size old.line) refl refl)
+  KeepsOrder-first_poll request request' waker (Ok Pending) h =
+      ordered_as _ h.2.2 (KeepsOrder-join h.2.0 request.size waker old.line (not_behind (is_slot h.2.0) old.ended (requests old.line) h.2.1))
+  KeepsOrder-first_poll request request' waker (Err errors.NoMemory) h = unchanged h.2
+  KeepsOrder-first_poll request request' waker (Err errors.Closed) h = unchanged h.1
   KeepsOrder-first_poll request request' waker (Err error) h = absurd h
 
   pub KeepsOrder-later_poll : (slot : ℕ) (request request' : Request) (waker : ℕ) (result : Result (Poll Permit) PollError) → LaterPoll slot request waker old result request' new → KeepsOrder old.line new.line
-  KeepsOrder-later_poll slot request request' waker (Ok (Ready permit)) h = ordered_as _ h.2 (KeepsOrder-poll_granted slot old.line)
-  KeepsOrder-later_poll slot request request' waker (Ok Pending) h = ordered_as _ h.1 (stays old.line (poll_waiting (is_slot slot) waker old.line) (entries-leave_waker (is_slot slot) waker old.line.waiting) refl)
+  KeepsOrder-later_poll slot request request' waker (Ok (Ready permit)) h = ordered_as _ h.3 (KeepsOrder-poll_granted slot old.line)
+  KeepsOrder-later_poll slot request request' waker (Ok Pending) h = ordered_as _ h.2 (stays old.line (poll_waiting (is_slot slot) waker old.line) (entries-leave_waker (is_slot slot) waker old.line.waiting) refl)
+  KeepsOrder-later_poll slot request request' waker (Err errors.Closed) h = ordered_as _ h.1 (KeepsOrder-same old.line old.line refl)
   KeepsOrder-later_poll slot request request' waker (Err error) h = absurd h
-
--- nobody leaves where nobody is meant
-without-nobody : (is : ℕ → Bool) (xs : List (Entry ℕ)) → entry_named is xs ≡ None → without is xs ≡ xs
-without-nobody is [] h = refl
-without-nobody is (x ∷ xs) h = go (is x.name) h (without-nobody is xs)
-  where
-    go : (b : Bool) → cond b (Some x) (entry_named is xs) ≡ None → (entry_named is xs ≡ None → without is xs ≡ xs) → cond b xs (x ∷ without is xs) ≡ x ∷ xs
-    go true e k = cc
-    go false e k = ap (λ ys. x ∷ ys) (k e)
 
 without_waiting-nobody : (is : ℕ → Bool) (ws : List (Waiting ℕ)) → entry_named is (map entry_of ws) ≡ None → without_waiting is ws ≡ ws
 without_waiting-nobody is [] h = refl
@@ -168,22 +163,6 @@ without_waiting-nobody is (w ∷ ws) h = go (is w.name) h (without_waiting-nobod
     go false e k = ap (λ vs. w ∷ vs) (k e)
 
 module _ (slot : ℕ) (line : Line ℕ) (distinct : IsDistinct nat_eq (map (λ e. e.name) (requests line))) (head : HeadWaits line.free line.waiting) where
-  -- one that was granted doesn't wait
-  doesnt_wait : (found : Entry ℕ) → entry_named (is_slot slot) line.granted ≡ Some found → entry_named (is_slot slot) (map entry_of line.waiting) ≡ None
-  doesnt_wait found h =
-      let there = once slot (requests line) distinct in
-      let both = count_named-append (is_slot slot) line.granted (map entry_of line.waiting) in
-      entry_named-none (is_slot slot) (map entry_of line.waiting) (none_left (count_named (is_slot slot) line.granted) (count_named (is_slot slot) (map entry_of line.waiting)) some (omega (arith, there, both)))
-    where
-      some_is_none : (found : Option (Entry ℕ)) (e : Entry ℕ) → found ≡ None → found ≡ Some e → ⊥
-      some_is_none found e p q = cc
-
-      some : count_named (is_slot slot) line.granted ≡ 0 → ⊥
-      some none = some_is_none (entry_named (is_slot slot) line.granted) found (entry_named-none (is_slot slot) line.granted none) h
-
-      none_left : (a b : ℕ) → (a ≡ 0 → ⊥) → a + b ≤ 1 → b ≡ 0
-      none_left a b p q = grind arith
-
   -- one that waited behind another makes room for nobody
   behind : (ws : List (Waiting ℕ)) → HeadWaits line.free ws → IsBehind slot ws → passed line.free (without_waiting (is_slot slot) ws) ≡ []
   behind [] k b = absurd b
@@ -198,7 +177,7 @@ module _ (slot : ℕ) (line : Line ℕ) (distinct : IsDistinct nat_eq (map (λ e
   makes_room (Some e) h sum =
       let base = withdraw (Some e) (is_slot slot) line in
       record {
-        waiting = without_waiting-nobody (is_slot slot) line.waiting (doesnt_wait e h) ∙ sym (passed-left base.free line.waiting) ∙ ap (λ ws. passed base.free line.waiting ++ ws) (sym (waiting-settle base));
+        waiting = without_waiting-nobody (is_slot slot) line.waiting (stands_once slot line.granted (map entry_of line.waiting) distinct e h) ∙ sym (passed-left base.free line.waiting) ∙ ap (λ ws. passed base.free line.waiting ++ ws) (sym (waiting-settle base));
         granted = IsPermutation-equal _ (settle base).granted (granted-settle base);
         wakes = wakes-settle base;
         sum = sum;
@@ -232,9 +211,11 @@ MakesRoomFor-alike slot old one other granted_now alike h = record {
 
 pub LeavesOthers-cancels : (slot : ℕ) (old new : SemaphoreState) → IsLawful old → IsLike (without_request slot old) new → LeavesOthers slot old new
 LeavesOthers-cancels slot old new lawful like =
-    let room = MakesRoomFor-cancel slot old.line lawful.one_each lawful.head_waits in (
+    let room = MakesRoomFor-cancel slot old.line (distinct_behind old.ended (requests old.line) lawful.one_each) lawful.head_waits in (
       like.number,
       like.held,
+      like.closed,
+      like.ended,
       IsPermutation-trans _ _ _ (IsPermutation-equal _ _ (requests-cancel (is_slot slot) old.line)) (requests-alike (cancel (is_slot slot) old.line) new.line like.line),
       (room.0, MakesRoomFor-alike slot old.line (cancel (is_slot slot) old.line) new.line room.0 like.line room.1),
     )

@@ -3,6 +3,7 @@ pub mod Held
 pub mod Like
 pub mod Own
 pub mod Requests
+pub mod Slots
 pub mod Visits
 pub mod Whole
 mod Lawful

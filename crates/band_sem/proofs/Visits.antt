@@ -1,8 +1,8 @@
 -- What each call pays for its visits.
-use Rattle.std.proofs.Common.{◌≡◌, ℕ, suc, ◌+◌, ◌-◌, ◌*◌, ◌≤◌, List, [], ◌∷◌, ◌++◌, length, Bool, true, false, refl, sym, ap, ◌∙◌, subst, arith, Some, None}
+use Rattle.std.proofs.Common.{◌≡◌, ℕ, suc, ◌+◌, ◌*◌, ◌≤◌, List, [], ◌∷◌, ◌++◌, length, Bool, refl, ap, ◌∙◌, arith, Some, None}
 use Rattle.std.specs.Prelude.{ℤ, pos, int_le, nat_le, ◌-ℤ◌, Result, Ok, Err}
 use Rattle.std.proofs.lemmas.Bool.{cond_both}
-use Rattle.std.proofs.lemmas.List.{length-append}
+use Rattle.std.proofs.lemmas.List.{length-append, length-map}
 use Rattle.band_base.specs.declared.poll.Poll.{Poll}
 use Rattle.band_base.specs.declared.poll.Poll.TheVariants.{Ready, Pending}
 use Rattle.band_base.specs.declared.poll.PollError.{PollError}
@@ -11,8 +11,8 @@ use Rattle.band_balance.specs.Line.{Entry, Waiting, Line, entry_of, settle_from,
 use Rattle.band_line.specs.Visits.{Visits}
 use Rattle.band_sem.specs.Permit.{Permit}
 use Rattle.band_sem.specs.Request.{Request, Stage, NotPolled, Joined, Finished}
-use Rattle.band_sem.specs.Semaphore.{SemaphoreState, IsLike, Polls, PollsAt, FirstPoll, LaterPoll, is_slot, new_debts, taken, given_back, released, reduced, cancelled}
-use Rattle.band_sem.specs.Visits.{FewVisits, PollVisits, Pays, burden, served}
+use Rattle.band_sem.specs.Semaphore.{SemaphoreState, IsLike, Polls, PollsAt, FirstPoll, LaterPoll, is_slot, new_debts, given_back, released, reduced, shut, cancelled}
+use Rattle.band_sem.specs.Visits.{FewVisits, PollVisits, Pays, burden}
 
 -- who waits and whom to wake, together
 abbrev counted : Line ℕ → ℕ
@@ -67,6 +67,14 @@ pays-given_back n old new like few = pays old new (settles-like (give_back n old
 pub pays-released : (n : ℕ) (old new : SemaphoreState) {before after : ℕ} → IsLike (released n old) new → FewVisits old new before after → Pays (burden old) (burden new) before after
 pays-released n old new like few = pays old new (settles-like (give_back n old.line) (settle_from-counts _ old.line.waiting old.line.granted old.line.wakes) like.line.waiting like.line.wakes) few
 
+-- all that wait are ended, and each is woken
+pub pays-shut : (old new : SemaphoreState) {before after : ℕ} → IsLike (shut old) new → FewVisits old new before after → Pays (burden old) (burden new) before after
+pays-shut old new like few =
+    let w = ap length like.line.waiting in
+    let k = ap length like.line.wakes ∙ length-append old.line.wakes _ in
+    let all = length-map old.line.waiting (λ (x : Waiting ℕ). x.waker) in
+    pays old new (record { all = omega (arith, w, k, all); more = omega (arith, k) }) few
+
 -- without a request fewer wait
 settles-without : (old : SemaphoreState) (slot : ℕ) (found : _) {new : SemaphoreState} → new.line.waiting ≡ (settle (withdraw found (is_slot slot) old.line)).waiting
     → new.line.wakes ≡ (settle (withdraw found (is_slot slot) old.line)).wakes → Settles old new
@@ -111,20 +119,22 @@ pays-reduced n old new same visits =
 -- a poll
 module _ (request request' : Request) (waker : ℕ) (old new : SemaphoreState) {before after : ℕ} where
   first-pays : (result : Result (Poll Permit) PollError) → FirstPoll request waker old result request' new → PollVisits NotPolled result before after → Pays (burden old) (burden new) before after
-  first-pays (Ok (Ready permit)) polls visits = pays-none old new (ap burden polls.2) visits
+  first-pays (Ok (Ready permit)) polls visits = pays-none old new (ap burden polls.3) visits
   first-pays (Ok Pending) polls visits =
-      let one : burden new ≡ burden old + 1 = ap burden polls.1.2 ∙ longer (length-append old.line.waiting _) in
+      let one : burden new ≡ burden old + 1 = ap burden polls.2.2 ∙ longer (length-append old.line.waiting _) in
       pays-one old new one (omega (arith, visits.no_fewer)) visits.no_more
     where
       longer : {n : ℕ} → n ≡ length old.line.waiting + 1 → n + old.debts ≡ burden old + 1
       longer e = omega (arith, e)
-  first-pays (Err errors.NoMemory) polls visits = pays-none old new (ap burden polls.1) visits
+  first-pays (Err errors.NoMemory) polls visits = pays-none old new (ap burden polls.2) visits
+  first-pays (Err errors.Closed) polls visits = pays-none old new (ap burden polls.1) visits
   first-pays (Err error) polls visits = absurd polls
 
   later-pays : (slot : ℕ) (result : Result (Poll Permit) PollError) → LaterPoll slot request waker old result request' new → Visits 1 2 before after → Pays (burden old) (burden new) before after
-  later-pays slot (Ok (Ready permit)) polls visits = pays-as_many old new (ap burden polls.2) (omega (arith, visits.no_fewer)) visits.no_more
+  later-pays slot (Ok (Ready permit)) polls visits = pays-as_many old new (ap burden polls.3) (omega (arith, visits.no_fewer)) visits.no_more
   later-pays slot (Ok Pending) polls visits =
-      pays-as_many old new (ap burden polls.1 ∙ ap (λ n. n + old.debts) (same_count (is_slot slot) waker old.line.waiting)) (omega (arith, visits.no_fewer)) visits.no_more
+      pays-as_many old new (ap burden polls.2 ∙ ap (λ n. n + old.debts) (same_count (is_slot slot) waker old.line.waiting)) (omega (arith, visits.no_fewer)) visits.no_more
+  later-pays slot (Err errors.Closed) polls visits = pays-as_many old new (ap burden polls.1) (omega (arith, visits.no_fewer)) visits.no_more
   later-pays slot (Err error) polls visits = absurd polls
 
   pub pays-polled : (result : Result (Poll Permit) PollError) → Polls request waker old result request' new → PollVisits request.stage result before after → Pays (burden old) (burden new) before after

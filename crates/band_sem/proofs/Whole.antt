@@ -1,10 +1,10 @@
 -- The calls by which a semaphore stays one of n permits.
-use Rattle.std.proofs.Common.{◌≡◌, ℕ, ◌+◌, ◌-◌, ◌==◌, ◌<◌, ◌≤◌, ◌||◌, ◌&&◌, Bool, true, false, cond, List, [], ◌∷◌, ◌++◌, map, Option, Some, None, Result, Ok, Err, ℤ, pos, ◌+ℤ◌, ◌-ℤ◌, ◌≤ℤ◌, int_le, int_lt, unsigned_abs, refl, ap₂, arith, length}
+use Rattle.std.proofs.Common.{◌≡◌, ℕ, ◌+◌, ◌-◌, ◌==◌, ◌<◌, ◌≤◌, ◌||◌, ◌&&◌, Bool, true, false, cond, List, [], ◌∷◌, ◌++◌, map, Option, Some, None, Result, Ok, Err, ℤ, pos, ◌+ℤ◌, ◌-ℤ◌, ◌≤ℤ◌, int_le, int_lt, unsigned_abs, refl, sym, ◌∙◌, subst, ap, ap₂, arith, length}
 use Rattle.std.specs.List.{AllByRecursion}
 use Rattle.std.proofs.Math.Nat.{min-le_right}
 use Rattle.std.proofs.lemmas.Int.{ints}
 use Rattle.std.proofs.lemmas.Bool.{cond_both}
-use Rattle.std.specs.Prelude.{IsTrue}
+use Rattle.std.specs.Prelude.{IsTrue, IsSome, IsErrOf}
 use Rattle.band_balance.specs.Line.{Entry, Waiting, Line, requests, total, entry_of, entry_named, without, nobody_waits, is_served, available, drained, give_back, cancel, withdraw, settle, settle_from}
 use Rattle.band_balance.proofs.Settle.{total-cons, total-without, free-total-give_back, free-total-cancel}
 use Rattle.band_balance.proofs.Rename.{all_of_first}
@@ -14,9 +14,9 @@ use Rattle.band_base.specs.declared.poll.Poll.TheVariants as polls
 use Rattle.band_base.specs.declared.poll.PollError.{PollError}
 use Rattle.band_base.specs.declared.poll.PollError.TheVariants as errors
 use Rattle.band_base.specs.declared.waker.Waker.{Waker}
-use Rattle.band_sem.specs.Semaphore.{SemaphoreState, is_slot, taken, released, reduced, forgotten, given_back, joined, received, with_waker, without_request, woken, TakesWake, FirstPoll, LaterPoll}
+use Rattle.band_sem.specs.Semaphore.{SemaphoreState, is_slot, taken, released, reduced, forgotten, given_back, joined, received, with_waker, told, without_request, woken, TakesWake, FirstPoll, LaterPoll, Polls, PollsAt}
 use Rattle.band_sem.specs.Permit.{Permit}
-use Rattle.band_sem.specs.Request.{Request}
+use Rattle.band_sem.specs.Request.{Request, Stage, NotPolled, Joined, Finished}
 use Rattle.band_sem.specs.Whole.{IsWhole, StaysWhole}
 
 abbrev pub Asks : List (Entry ℕ) → Type 0
@@ -49,8 +49,10 @@ only is (e ∷ es) found there alone = go (is e.name) there alone
     go false there alone = cc
 
 -- what the rest of the facts rest on
-pub is_whole : (n : ℕ) (state : SemaphoreState) → pos 0 ≤ℤ state.line.free → state.line.free +ℤ pos (total state.line.granted + state.held) ≡ pos n → Asks (requests state.line) → IsWhole n state
-is_whole n state none_owed adds_up asks = record {
+pub is_whole : (n : ℕ) (state : SemaphoreState) → state.closed ≡ false → state.ended ≡ [] → pos 0 ≤ℤ state.line.free → state.line.free +ℤ pos (total state.line.granted + state.held) ≡ pos n → Asks (requests state.line) → IsWhole n state
+is_whole n state not_closed none_ended none_owed adds_up asks = record {
+  not_closed = not_closed;
+  none_ended = none_ended;
   none_owed = none_owed;
   adds_up = adds_up;
   each_asks = asks;
@@ -117,7 +119,7 @@ some_when_not_served size line waits = go (size == 0) refl waits
 module _ (n : ℕ) (state : SemaphoreState) (is : IsWhole n state) where
   IsWhole-taken : (k : ℕ) → is_served k state.line ≡ true → IsWhole n (taken k state)
   IsWhole-taken k served =
-      is_whole n _ (left k state.line.free is.none_owed (served_fits k state.line served)) (same k state.line.free (total state.line.granted) state.held is.adds_up) is.each_asks
+      is_whole n _ is.not_closed is.none_ended (left k state.line.free is.none_owed (served_fits k state.line served)) (same k state.line.free (total state.line.granted) state.held is.adds_up) is.each_asks
     where
       left : (k : ℕ) (z : ℤ) → pos 0 ≤ℤ z → (0 < k → pos k ≤ℤ z) → pos 0 ≤ℤ (z -ℤ pos k)
       left k z unowed fits = grind (arith, ints)
@@ -127,11 +129,11 @@ module _ (n : ℕ) (state : SemaphoreState) (is : IsWhole n state) where
 
   IsWhole-joined : (slot size waker : ℕ) → is_served size state.line ≡ false → IsWhole n (joined slot size waker state)
   IsWhole-joined slot size waker waits =
-      is_whole n _ is.none_owed is.adds_up (all-requests-join (λ (e : Entry ℕ). 0 < e.size) slot size waker state.line is.each_asks (some_when_not_served size state.line waits))
+      is_whole n _ is.not_closed is.none_ended is.none_owed is.adds_up (all-requests-join (λ (e : Entry ℕ). 0 < e.size) slot size waker state.line is.each_asks (some_when_not_served size state.line waits))
 
   pub IsWhole-given_back : (k : ℕ) → k ≤ state.held → IsWhole n (given_back k state)
   IsWhole-given_back k held =
-      is_whole n _
+      is_whole n _ is.not_closed is.none_ended
       (settles_unowed (state.line.free +ℤ pos k) state.line.waiting state.line.granted state.line.wakes (more k state.line.free is.none_owed))
       (same k state.line.free (give_back k state.line).free (total state.line.granted) (total (give_back k state.line).granted) state.held held (free-total-give_back k state.line) is.adds_up)
       (all-requests-give_back (λ (e : Entry ℕ). 0 < e.size) k state.line is.each_asks)
@@ -144,7 +146,7 @@ module _ (n : ℕ) (state : SemaphoreState) (is : IsWhole n state) where
 
   pub IsWhole-without_request : (slot : ℕ) → IsWhole n (without_request slot state)
   IsWhole-without_request slot =
-      is_whole n _
+      is_whole n _ is.not_closed (ap (without (is_slot slot)) is.none_ended)
       (unowed (entry_named (is_slot slot) state.line.granted))
       (same state.line.free (cancel (is_slot slot) state.line).free (total state.line.granted) (total (cancel (is_slot slot) state.line).granted) state.held (free-total-cancel (is_slot slot) state.line) is.adds_up)
       (all-requests-cancel (λ (e : Entry ℕ). 0 < e.size) (is_slot slot) state.line is.each_asks)
@@ -161,7 +163,7 @@ module _ (n : ℕ) (state : SemaphoreState) (is : IsWhole n state) where
 
   IsWhole-received : (slot k : ℕ) → entry_named (is_slot slot) state.line.granted ≡ Some (record { name = slot; size = k }) → IsWhole n (received slot k state)
   IsWhole-received slot k there =
-      is_whole n _ is.none_owed
+      is_whole n _ is.not_closed is.none_ended is.none_owed
       (same k state.line.free (total (without (is_slot slot) state.line.granted)) (total state.line.granted) state.held (total-without (is_slot slot) state.line.granted _ there) is.adds_up)
       (all-requests-poll_granted (λ (e : Entry ℕ). 0 < e.size) (is_slot slot) state.line is.each_asks)
     where
@@ -170,10 +172,13 @@ module _ (n : ℕ) (state : SemaphoreState) (is : IsWhole n state) where
 
   IsWhole-with_waker : (slot waker : ℕ) → IsWhole n (with_waker slot waker state)
   IsWhole-with_waker slot waker =
-      is_whole n _ is.none_owed is.adds_up (all-requests-poll_waiting (λ (e : Entry ℕ). 0 < e.size) (is_slot slot) waker state.line is.each_asks)
+      is_whole n _ is.not_closed is.none_ended is.none_owed is.adds_up (all-requests-poll_waiting (λ (e : Entry ℕ). 0 < e.size) (is_slot slot) waker state.line is.each_asks)
+
+  IsWhole-told : (slot : ℕ) → IsWhole n (told slot state)
+  IsWhole-told slot = is_whole n _ is.not_closed (ap (without (is_slot slot)) is.none_ended) is.none_owed is.adds_up is.each_asks
 
   IsWhole-woken : IsWhole n (woken state)
-  IsWhole-woken = is_whole n _ is.none_owed is.adds_up is.each_asks
+  IsWhole-woken = is_whole n _ is.not_closed is.none_ended is.none_owed is.adds_up is.each_asks
 
 is_true : (b : Bool) → IsTrue b → b ≡ true
 is_true true h = refl
@@ -196,7 +201,7 @@ available_is_free k line fits unowed = go (nobody_waits line.waiting && int_lt (
 -- more or fewer permits than there were
 pub IsWhole-released : (n k : ℕ) (state : SemaphoreState) → IsWhole n state → IsWhole (n + k) (released k state)
 IsWhole-released n k state is =
-    is_whole (n + k) _
+    is_whole (n + k) _ is.not_closed is.none_ended
     (settles_unowed (state.line.free +ℤ pos k) state.line.waiting state.line.granted state.line.wakes (more k state.line.free is.none_owed))
     (same n k state.line.free (give_back k state.line).free (total state.line.granted) (total (give_back k state.line).granted) state.held (free-total-give_back k state.line) is.adds_up)
     (all-requests-give_back (λ (e : Entry ℕ). 0 < e.size) k state.line is.each_asks)
@@ -209,7 +214,7 @@ IsWhole-released n k state is =
 
 IsWhole-reduced : (n k : ℕ) (state : SemaphoreState) → pos k ≤ℤ state.line.free → IsWhole (n + k) state → IsWhole n (reduced k state)
 IsWhole-reduced n k state free is =
-    is_whole n _ (left k state.line.free free) (same n k state.line.free (total state.line.granted) state.held is.adds_up) is.each_asks
+    is_whole n _ is.not_closed is.none_ended (left k state.line.free free) (same n k state.line.free (total state.line.granted) state.held is.adds_up) is.each_asks
   where
     left : (k : ℕ) (z : ℤ) → pos k ≤ℤ z → pos 0 ≤ℤ (z -ℤ pos k)
     left k z h = omega (arith, ints)
@@ -218,7 +223,7 @@ IsWhole-reduced n k state free is =
     same n k z g h e = omega (arith, ints)
 
 IsWhole-forgotten : (n k : ℕ) (state : SemaphoreState) → k ≤ state.held → IsWhole (n + k) state → IsWhole n (forgotten k state)
-IsWhole-forgotten n k state held is = is_whole n _ is.none_owed (same n k state.line.free (total state.line.granted) state.held held is.adds_up) is.each_asks
+IsWhole-forgotten n k state held is = is_whole n _ is.not_closed is.none_ended is.none_owed (same n k state.line.free (total state.line.granted) state.held held is.adds_up) is.each_asks
   where
     same : (n k : ℕ) (z : ℤ) (g h : ℕ) → k ≤ h → z +ℤ pos (g + h) ≡ pos (n + k) → z +ℤ pos (g + (h - k)) ≡ pos n
     same n k z g h le e = omega (arith, ints)
@@ -243,12 +248,25 @@ module _ (old new : SemaphoreState) where
   StaysWhole-woken (Some waker) (first, takes) = λ n is. rw takes (IsWhole-woken n old is)
 
   pub StaysWhole-first_poll : (request request' : Request) (waker : ℕ) (result : Result (Poll Permit) PollError) → FirstPoll request waker old result request' new → StaysWhole old new
-  StaysWhole-first_poll request request' waker (Ok (polls.Ready permit)) (served, a, takes, b) = λ n is. rw takes (IsWhole-taken n old is request.size (is_true (is_served request.size old.line) served))
-  StaysWhole-first_poll request request' waker (Ok polls.Pending) (waits, (slot, fresh, joins, b)) = λ n is. rw joins (IsWhole-joined n old is slot request.size waker waits)
-  StaysWhole-first_poll request request' waker (Err errors.NoMemory) (waits, same, b) = StaysWhole-same same
+  StaysWhole-first_poll request request' waker (Ok (polls.Ready permit)) (not_shut, served, a, takes, b) = λ n is. rw takes (IsWhole-taken n old is request.size (is_true (is_served request.size old.line) served))
+  StaysWhole-first_poll request request' waker (Ok polls.Pending) (not_shut, waits, (slot, fresh, joins, b)) = λ n is. rw joins (IsWhole-joined n old is slot request.size waker waits)
+  StaysWhole-first_poll request request' waker (Err errors.NoMemory) (not_shut, waits, same, b) = StaysWhole-same same
+  StaysWhole-first_poll request request' waker (Err errors.Closed) (was_shut, same, b) = StaysWhole-same same
   StaysWhole-first_poll request request' waker (Err error) polled = absurd polled
 
   pub StaysWhole-later_poll : (slot : ℕ) (request request' : Request) (waker : ℕ) (result : Result (Poll Permit) PollError) → LaterPoll slot request waker old result request' new → StaysWhole old new
-  StaysWhole-later_poll slot request request' waker (Ok (polls.Ready permit)) (there, a, receives, b) = λ n is. rw receives (IsWhole-received n old is slot request.size there)
-  StaysWhole-later_poll slot request request' waker (Ok polls.Pending) (none, leaves, b) = λ n is. rw leaves (IsWhole-with_waker n old is slot waker)
+  StaysWhole-later_poll slot request request' waker (Ok (polls.Ready permit)) (live, there, a, receives, b) = λ n is. rw receives (IsWhole-received n old is slot request.size there)
+  StaysWhole-later_poll slot request request' waker (Ok polls.Pending) (live, none, leaves, b) = λ n is. rw leaves (IsWhole-with_waker n old is slot waker)
+  StaysWhole-later_poll slot request request' waker (Err errors.Closed) (there, hears, b) = λ n is. rw hears (IsWhole-told n old is slot)
   StaysWhole-later_poll slot request request' waker (Err error) polled = absurd polled
+
+-- of one that is not closed, and of which nobody is ended, no poll answers that it is
+pub never_closed : (n : ℕ) (request request' : Request) (waker : ℕ) (old new : SemaphoreState) (result : Result (Poll Permit) PollError) → IsWhole n old → Polls request waker old result request' new
+    → IsErrOf result errors.Closed → ⊥
+never_closed n request request' waker old new result whole polled is =
+    at request.stage (subst (λ (answer : Result (Poll Permit) PollError). Polls request waker old answer request' new) is polled)
+  where
+    at : (stage : Stage) → PollsAt stage request waker old (Err errors.Closed) request' new → ⊥
+    at NotPolled polled = let never : true ≡ false = sym polled.0 ∙ whole.not_closed in cc
+    at (Joined slot) polled = let nobody = subst (λ (es : List (Entry ℕ)). IsSome (entry_named (is_slot slot) es)) whole.none_ended polled.0 in cc
+    at Finished polled = let never : ◌≡◌ {A = Result (Poll Permit) PollError} (Err errors.Closed) (Err errors.Finished) = polled.0 in cc

@@ -51,6 +51,8 @@ abbrev pub LeavesOthers : ℕ → SemaphoreState → SemaphoreState → Type 0
 LeavesOthers slot old new =
     (new.number ≡ old.number)
     × (new.held ≡ old.held)
+    × (new.closed ≡ old.closed)
+    × IsPermutation (without (is_slot slot) old.ended) new.ended
     × IsPermutation (without (is_slot slot) (requests old.line)) (requests new.line)
     × ((granted_now : List (Waiting ℕ)) × MakesRoomFor slot old.line new.line granted_now)
 

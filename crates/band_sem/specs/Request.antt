@@ -4,9 +4,9 @@ use Rattle.std.specs.Prelude.{ℕ}
 pub data Stage : Type 0 where
   -- it was not polled yet
   NotPolled : Stage
-  -- it is in the line under this slot: it waits, or it was granted
+  -- it has this slot: it waits, it was granted, or it was ended
   Joined : (slot : ℕ) → Stage
-  -- it gave its permits
+  -- it gave its permits, or it answered that the semaphore is closed
   Finished : Stage
 
 -- what a contract sees of a request: the number of its semaphore, how many permits it asks for, and what it has come to

@@ -1,7 +1,6 @@
 -- Requests of one semaphore that a caller keeps in a row.
-use Rattle.std.specs.Prelude.{ℕ, List, [], ◌∷◌, ⊤}
+use Rattle.std.specs.Prelude.{List, [], ◌∷◌, ⊤}
 use Rattle.std.specs.List.{AllByRecursion}
-use Rattle.band_balance.specs.Line.{Line}
 use Rattle.band_sem.specs.Request.{Request}
 use Rattle.band_sem.specs.Semaphore.{SemaphoreState, IsOwn, SlotsDiffer}
 
@@ -9,11 +8,11 @@ use Rattle.band_sem.specs.Semaphore.{SemaphoreState, IsOwn, SlotsDiffer}
 abbrev pub AreApart : Request → List Request → Type 0
 AreApart one others = AllByRecursion (λ other. SlotsDiffer other.stage one.stage) others
 
--- each has its slot in the line, and no two have one slot
-abbrev pub AreOwn : Line ℕ → List Request → Type 0
-AreOwn line [] = ⊤
-AreOwn line (first ∷ rest) = IsOwn first.stage first.size line × AreApart first rest × AreOwn line rest
+-- each has its slot, and no two have one slot
+abbrev pub AreOwn : SemaphoreState → List Request → Type 0
+AreOwn state [] = ⊤
+AreOwn state (first ∷ rest) = IsOwn first.stage first.size state × AreApart first rest × AreOwn state rest
 
 -- requests that have their slots keep them
 abbrev pub KeepsOwn : SemaphoreState → SemaphoreState → Type 0
-KeepsOwn old new = (requests : List Request) → AreOwn old.line requests → AreOwn new.line requests
+KeepsOwn old new = (requests : List Request) → AreOwn old requests → AreOwn new requests

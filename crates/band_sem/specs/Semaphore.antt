@@ -1,7 +1,9 @@
 -- What a contract sees of a semaphore, and what each call makes of it.
-use Rattle.std.specs.Prelude.{◌≡◌, ℕ, ◌+◌, ◌-◌, ◌<◌, ◌≤◌, Bool, false, ◌==◌, ◌∷◌, [], drop, map, pos, neg_ℤ, ◌+ℤ◌, ◌≤ℤ◌, IsTrue, Option, Some, None, Result, Ok, Err, nat_eq, nat_le, if◌then◌else◌}
+use Rattle.std.specs.Prelude.{◌≡◌, ℕ, ◌+◌, ◌-◌, ◌<◌, ◌≤◌, Bool, true, false, not, ◌&&◌, ◌==◌, List, ◌∷◌, [], ◌++◌, drop, map, pos, neg_ℤ, ◌+ℤ◌, ◌≤ℤ◌, IsTrue, IsSome, Option, Some, None, Result, Ok, Err, nat_eq, nat_le, if◌then◌else◌}
 use Rattle.std.specs.List.{IsDistinct, AllByRecursion}
-use Rattle.band_balance.specs.Line.{Line, AreAlike, open_line, requests, total, available, is_served, take_permits, give_back, join, entry_named, poll_granted, poll_waiting, cancel, u64_max}
+use Rattle.std.specs.List.Sorted.{IsPermutation}
+use Rattle.band_balance.specs.Line.{Entry, Waiting, Line, AreAlike, entry_of, open_line, requests, total, available, is_served, take_permits, give_back, join, entry_named, without, poll_granted}
+use Rattle.band_balance.specs.Line.{poll_waiting, cancel, end_waiting, u64_max}
 use Rattle.band_balance.specs.Settled.{HeadWaits}
 use Rattle.band_base.specs.declared.poll.Poll.{Poll}
 use Rattle.band_base.specs.declared.poll.Poll.TheVariants.{Ready, Pending}
@@ -11,26 +13,41 @@ use Rattle.band_base.specs.declared.waker.Waker.{Waker}
 use Rattle.band_sem.specs.Permit.{Permit, new_permit}
 use Rattle.band_sem.specs.Request.{Request, Stage, NotPolled, Joined, Finished}
 
--- its number, its line by slots, how many permits are held, and how many debts are not paid yet
+-- its number, its line by slots, how many permits are held, how many debts are not paid yet, whether it is closed, and
+-- the requests that it ended and that have not polled since
 pub record SemaphoreState : Type 0 where
   pub number : ℕ
   pub line : Line ℕ
   pub held : ℕ
   pub debts : ℕ
+  pub closed : Bool
+  pub ended : List (Entry ℕ)
 
--- Two are alike where they differ at most in the order of those granted, which no call looks at, and in how many
--- debts make up what is owed.
+-- who has a slot: those that were ended, and those in the line
+abbrev pub asked : SemaphoreState → List (Entry ℕ)
+asked state = state.ended ++ requests state.line
+
+-- Two are alike where they differ at most in the order of those granted and of those ended, which no call looks at, and
+-- in how many debts make up what is owed.
 pub record IsLike (one other : SemaphoreState) : Type 0 where
   pub number : other.number ≡ one.number
   pub line : AreAlike one.line other.line
   pub held : other.held ≡ one.held
+  pub closed : other.closed ≡ one.closed
+  pub ended : IsPermutation one.ended other.ended
+
+-- of an open semaphore nobody is ended, and of a closed one nobody waits
+abbrev pub EndsAs : Bool → List (Entry ℕ) → List (Waiting ℕ) → Type 0
+EndsAs false ended waiting = ended ≡ []
+EndsAs true ended waiting = waiting ≡ []
 
 -- what holds between any two calls
 pub record IsLawful (state : SemaphoreState) : Type 0 where
   -- a slot is one request's
-  pub one_each : IsDistinct nat_eq (map (λ e. e.name) (requests state.line))
-  -- each request in the line asks for something
-  pub each_asks : AllByRecursion (λ e. 0 < e.size) (requests state.line)
+  pub one_each : IsDistinct nat_eq (map (λ e. e.name) (asked state))
+  -- each request that has one asks for something
+  pub each_asks : AllByRecursion (λ e. 0 < e.size) (asked state)
+  pub closing : EndsAs state.closed state.ended state.line.waiting
   pub head_waits : HeadWaits state.line.free state.line.waiting
   pub in_hand : total state.line.granted + state.held ≤ u64_max
   pub in_all : (state.line.free +ℤ pos (total state.line.granted + state.held)) ≤ℤ pos u64_max
@@ -41,7 +58,12 @@ is_slot slot name = slot == name
 
 -- one of n permits, of which nobody has any
 abbrev pub new_state : ℕ → ℕ → SemaphoreState
-new_state number n = record { number = number; line = open_line n; held = 0; debts = 0 }
+new_state number n =
+    record { number = number; line = open_line n; held = 0; debts = 0; closed = false; ended = [] }
+
+-- a request is served at once: it is open, and so much may be taken without waiting
+abbrev pub serves : ℕ → SemaphoreState → Bool
+serves n state = not state.closed && is_served n state.line
 
 -- n of the free permits are held from now on
 abbrev pub taken : ℕ → SemaphoreState → SemaphoreState
@@ -79,9 +101,22 @@ received slot n old = record old { line = poll_granted (is_slot slot) old.line; 
 abbrev pub with_waker : ℕ → ℕ → SemaphoreState → SemaphoreState
 with_waker slot waker old = record old { line = poll_waiting (is_slot slot) waker old.line }
 
--- the request under this slot ends, and the line settles
+-- the one that was ended under this slot has heard of it
+abbrev pub told : ℕ → SemaphoreState → SemaphoreState
+told slot old = record old { ended = without (is_slot slot) old.ended }
+
+-- the request under this slot leaves, and the line settles
 abbrev pub without_request : ℕ → SemaphoreState → SemaphoreState
-without_request slot old = record old { line = cancel (is_slot slot) old.line }
+without_request slot old =
+    record old { line = cancel (is_slot slot) old.line; ended = without (is_slot slot) old.ended }
+
+-- it is closed: all that wait are ended, and are to be woken in their order
+abbrev pub shut : SemaphoreState → SemaphoreState
+shut old = record old {
+  line = end_waiting old.line;
+  closed = true;
+  ended = old.ended ++ map entry_of old.line.waiting;
+}
 
 -- the oldest waker to wake is taken
 abbrev pub woken : SemaphoreState → SemaphoreState
@@ -92,12 +127,16 @@ abbrev pub TakesWake : SemaphoreState → Option Waker → SemaphoreState → Ty
 TakesWake old None new = (old.line.wakes ≡ []) × (new ≡ old)
 TakesWake old (Some waker) new = (old.line.wakes ≡ waker.0 ∷ new.line.wakes) × (new ≡ woken old)
 
--- a request that joined has its slot in the line
-abbrev pub IsOwn : Stage → ℕ → Line ℕ → Type 0
-IsOwn NotPolled size line = Unit {0}
-IsOwn (Joined slot) size line =
-    entry_named (is_slot slot) (requests line) ≡ Some (record { name = slot; size = size })
-IsOwn Finished size line = Unit {0}
+-- somebody has this slot
+abbrev pub HasSlot : ℕ → SemaphoreState → Type 0
+HasSlot slot state = IsSome (entry_named (is_slot slot) (asked state))
+
+-- a request that joined has its slot: it waits, was granted, or was ended
+abbrev pub IsOwn : Stage → ℕ → SemaphoreState → Type 0
+IsOwn NotPolled size state = Unit {0}
+IsOwn (Joined slot) size state =
+    entry_named (is_slot slot) (asked state) ≡ Some (record { name = slot; size = size })
+IsOwn Finished size state = Unit {0}
 
 -- two requests don't have one slot
 abbrev pub SlotsDiffer : Stage → Stage → Type 0
@@ -110,39 +149,48 @@ finished request = record request { stage = Finished }
 abbrev pub permit_for : Request → Permit
 permit_for request = new_permit request.of request.size
 
--- a first poll: it is served at once, or it joins under a slot that nobody has
+-- a first poll: it is served at once, or it joins under a slot that nobody has; on a closed semaphore it is finished
 abbrev pub FirstPoll : Request → ℕ → SemaphoreState → Result (Poll Permit) PollError
     → Request → SemaphoreState → Type 0
 FirstPoll request waker old (Ok (Ready permit)) request' new =
-    IsTrue (is_served request.size old.line)
+    (old.closed ≡ false)
+    × IsTrue (is_served request.size old.line)
     × (permit ≡ permit_for request)
     × (new ≡ taken request.size old)
     × (request' ≡ finished request)
 FirstPoll request waker old (Ok Pending) request' new =
-    (is_served request.size old.line ≡ false)
+    (old.closed ≡ false)
+    × (is_served request.size old.line ≡ false)
     × ((slot : ℕ)
-    × (entry_named (is_slot slot) (requests old.line) ≡ None)
+    × (entry_named (is_slot slot) (asked old) ≡ None)
     × (new ≡ joined slot request.size waker old)
     × (request' ≡ record request { stage = Joined slot }))
 FirstPoll request waker old (Err errors.NoMemory) request' new =
-    (is_served request.size old.line ≡ false) × (new ≡ old) × (request' ≡ request)
+    (old.closed ≡ false) × (is_served request.size old.line ≡ false) × (new ≡ old) × (request' ≡ request)
+FirstPoll request waker old (Err errors.Closed) request' new =
+    (old.closed ≡ true) × (new ≡ old) × (request' ≡ finished request)
 FirstPoll request waker old (Err error) request' new = ⊥
 
--- a later poll: one that was granted takes its permits, and one that waits leaves its new waker
+-- a later poll: one that was ended hears of it and is finished, one that was granted takes its permits, and one that
+-- waits leaves its new waker
 abbrev pub LaterPoll : ℕ → Request → ℕ → SemaphoreState → Result (Poll Permit) PollError
     → Request → SemaphoreState → Type 0
 LaterPoll slot request waker old (Ok (Ready permit)) request' new =
-    (entry_named (is_slot slot) old.line.granted ≡ Some (record { name = slot; size = request.size }))
+    (entry_named (is_slot slot) old.ended ≡ None)
+    × (entry_named (is_slot slot) old.line.granted ≡ Some (record { name = slot; size = request.size }))
     × (permit ≡ permit_for request)
     × (new ≡ received slot request.size old)
     × (request' ≡ finished request)
 LaterPoll slot request waker old (Ok Pending) request' new =
-    (entry_named (is_slot slot) old.line.granted ≡ None)
+    (entry_named (is_slot slot) old.ended ≡ None)
+    × (entry_named (is_slot slot) old.line.granted ≡ None)
     × (new ≡ with_waker slot waker old)
     × (request' ≡ request)
+LaterPoll slot request waker old (Err errors.Closed) request' new =
+    IsSome (entry_named (is_slot slot) old.ended) × (new ≡ told slot old) × (request' ≡ finished request)
 LaterPoll slot request waker old (Err error) request' new = ⊥
 
--- a poll of one that was ready before changes nothing
+-- a poll of one that is finished changes nothing
 abbrev pub RefusedPoll : Request → SemaphoreState → Result (Poll Permit) PollError
     → Request → SemaphoreState → Type 0
 RefusedPoll request old result request' new =
@@ -159,7 +207,7 @@ abbrev pub Polls : Request → ℕ → SemaphoreState → Result (Poll Permit) P
     → Request → SemaphoreState → Type 0
 Polls request waker old result request' new = PollsAt request.stage request waker old result request' new
 
--- what a cancel leaves: nothing changes where the request is not in the line
+-- what a cancel leaves: nothing changes where the request has no slot
 abbrev pub cancelled : Stage → SemaphoreState → SemaphoreState
 cancelled NotPolled old = old
 cancelled (Joined slot) old = without_request slot old

@@ -1,5 +1,5 @@
 -- The nodes of the line, and what they stand for.
-use Rattle.std.specs.Prelude.{◌≡◌, []}
+use Rattle.std.specs.Prelude.{◌≡◌}
 use Rattle.band_balance.specs.Line.{available}
 use Rattle.band_partial.specs.PartialLine.{StandsFor, debts}
 use Rattle.band_line.specs.WaitList.{WaitListState}
@@ -12,10 +12,9 @@ abbrev pub row_of : SemaphoreState → WaitListState WaitNode → RowState
 row_of state list = record { word = available state.line; list = list; wakes = state.line.wakes }
 
 -- The linked nodes are debts, and then those that wait, of whom only the first may have a share; the others were
--- granted. With what is available they stand for the line.
+-- granted or ended. With what is available they stand for the line.
 pub record ShowsLine (state : SemaphoreState) (list : WaitListState WaitNode) : Type 0 where
   pub stands : StandsFor state.line (part (row_of state list))
   pub debts : state.debts ≡ debts (linked_nodes list)
   pub row : IsRow (row_of state list)
-  -- no request of a semaphore is ended while it waits, so each node that is not linked was granted
-  pub none_ended : ended_of list ≡ []
+  pub ended : state.ended ≡ ended_of list

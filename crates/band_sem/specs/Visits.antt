@@ -8,7 +8,7 @@ use Rattle.band_sem.specs.Permit.{Permit}
 use Rattle.band_sem.specs.Request.{Stage, NotPolled, Joined, Finished}
 use Rattle.band_sem.specs.Semaphore.{SemaphoreState}
 
--- how many requests were granted, each of which is woken, and how many debts were paid up
+-- how many requests were granted or ended, each of which is woken, and how many debts there are fewer
 abbrev pub served : SemaphoreState → SemaphoreState → ℕ
 served old new = (length new.line.wakes - length old.line.wakes) + (old.debts - new.debts)
 

@@ -1,11 +1,13 @@
 -- A semaphore of which all n permits are there, as locks, cells and pools keep one.
-use Rattle.std.specs.Prelude.{◌≡◌, ℕ, ◌+◌, ◌<◌, ◌≤◌, [], ◌∷◌, pos, ◌+ℤ◌, ◌≤ℤ◌, Some, length}
+use Rattle.std.specs.Prelude.{◌≡◌, ℕ, ◌+◌, ◌<◌, ◌≤◌, false, [], ◌∷◌, pos, ◌+ℤ◌, ◌≤ℤ◌, Some, length}
 use Rattle.std.specs.List.{AllByRecursion}
 use Rattle.band_balance.specs.Line.{Entry, requests, total, entry_named}
 use Rattle.band_sem.specs.Semaphore.{SemaphoreState, is_slot}
 
--- there are n permits in all, and none is owed
+-- there are n permits in all, none is owed, and it is not closed
 pub record IsWhole (n : ℕ) (state : SemaphoreState) : Type 0 where
+  pub not_closed : state.closed ≡ false
+  pub none_ended : state.ended ≡ []
   pub none_owed : pos 0 ≤ℤ state.line.free
   -- what is free, granted and held is all there is
   pub adds_up : state.line.free +ℤ pos (total state.line.granted + state.held) ≡ pos n

@@ -11,6 +11,7 @@ use crate::store::Entrance;
 use crate::{Semaphore, SemaphorePermit};
 use band_base::{Poll, PollError, Steps, Waker};
 use band_line::WaiterId;
+use band_row::Found;
 use std::marker::Model;
 use std::sync::ledger::Ledger;
 
@@ -19,9 +20,9 @@ use std::sync::ledger::Ledger;
 enum Progress {
     /// It was not polled yet.
     NotPolled,
-    /// It has this slot of its semaphore, and waits or was granted.
+    /// It has this slot of its semaphore, and waits, was granted or was ended.
     Joined(WaiterId),
-    /// It gave its permits.
+    /// It gave its permits, or answered that the semaphore is closed.
     Finished,
 }
 
@@ -76,7 +77,8 @@ impl Acquire {
         } = self;
     }
 
-    /// Asks for the permits: the first time it may join the line, and later it asks whether it was granted.
+    /// Asks for the permits: the first time it may join the line, and later it asks whether it was granted. `Closed` says
+    /// that the semaphore was closed before it was granted; it is finished then.
     pub fn poll_once<L: Ledger>(
         &mut self,
         sem: &mut Semaphore,
@@ -84,7 +86,7 @@ impl Acquire {
         steps: &mut Steps<L>,
     ) -> Result<Poll<SemaphorePermit>, PollError>
         requires number { self.old.of ≡ sem.old.number }
-        requires own { IsOwn self.old.stage self.old.size sem.old.line }
+        requires own { IsOwn self.old.stage self.old.size sem.old }
         ensures polls { Polls self.old waker.0 sem.old result self.new sem.new }
         ensures order { KeepsOrder sem.old.line sem.new.line }
         ensures lawful { IsLawful sem.new }
@@ -95,7 +97,7 @@ impl Acquire {
             Progress::NotPolled => self.poll_first(sem, waker, steps),
             Progress::Joined(slot) => {
                 let slot = *slot;
-                Ok(self.poll_later(sem, slot, waker, steps))
+                self.poll_later(sem, slot, waker, steps)
             }
             Progress::Finished => {
                 sem.touch();
@@ -123,6 +125,10 @@ impl Acquire {
                 self.progress = Progress::Joined(*slot);
                 Ok(Poll::Pending)
             }
+            Ok(Entrance::Closed) => {
+                self.progress = Progress::Finished;
+                Err(PollError::Closed)
+            }
             Err(_) => Err(PollError::NoMemory),
         }
     }
@@ -133,25 +139,29 @@ impl Acquire {
         slot: WaiterId,
         waker: Waker,
         steps: &mut Steps<L>,
-    ) -> Poll<SemaphorePermit>
-        requires { IsOwn (Joined slot) self.old.size sem.old.line }
-        ensures polls { LaterPoll slot self.old waker.0 sem.old (Ok result) self.new sem.new }
+    ) -> Result<Poll<SemaphorePermit>, PollError>
+        requires { IsOwn (Joined slot) self.old.size sem.old }
+        ensures polls { LaterPoll slot self.old waker.0 sem.old result self.new sem.new }
         ensures lawful { IsLawful sem.new }
         ensures visits { Visits 1 2 steps.old steps.new }
     {
         match sem.poll_slot(slot, waker, steps) {
-            Some(size) => {
+            Found::Granted(size) => {
                 self.progress = Progress::Finished;
-                Poll::Ready(SemaphorePermit::new(self.of, size))
+                Ok(Poll::Ready(SemaphorePermit::new(self.of, size)))
             }
-            None => Poll::Pending,
+            Found::Waits => Ok(Poll::Pending),
+            Found::Ended => {
+                self.progress = Progress::Finished;
+                Err(PollError::Closed)
+            }
         }
     }
 
-    /// Ends the request. One that waits leaves the line, and one that was granted gives its permits back. Then the line settles.
+    /// Ends the request. One that waits or was ended leaves, and one that was granted gives its permits back. Then the line settles.
     pub fn cancel<L: Ledger>(self, sem: &mut Semaphore, steps: &mut Steps<L>)
         requires number { self.of ≡ sem.old.number }
-        requires own { IsOwn self.stage self.size sem.old.line }
+        requires own { IsOwn self.stage self.size sem.old }
         ensures state { IsLike (cancelled self.stage sem.old) sem.new }
         ensures others { Leaves self.stage sem.old sem.new }
         ensures order { KeepsOrder sem.old.line sem.new.line }

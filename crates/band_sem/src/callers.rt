@@ -28,10 +28,10 @@ fn polls<L: Ledger, R: Abort>(
     waker: Waker,
     steps: &mut Steps<L>,
 ) -> Option<SemaphorePermit>
-    requires own { IsOwn request.stage request.size sem.old.line }
+    requires own { IsOwn request.stage request.size sem.old }
     requires apart { AreApart request requests.old.items }
-    requires others { AreOwn sem.old.line requests.old.items }
-    ensures { AreOwn sem.new.line requests.new.items }
+    requires others { AreOwn sem.old requests.old.items }
+    ensures { AreOwn sem.new requests.new.items }
 {
     let mut request = request;
     assert!(rt; request.of() == sem.number());
@@ -60,8 +60,8 @@ pub(crate) fn asks<L: Ledger, R: Abort>(
     waker: Waker,
     steps: &mut Steps<L>,
 ) -> Option<SemaphorePermit>
-    requires { AreOwn sem.old.line requests.old.items }
-    ensures { AreOwn sem.new.line requests.new.items }
+    requires { AreOwn sem.old requests.old.items }
+    ensures { AreOwn sem.new requests.new.items }
 {
     let request = sem.acquire(size);
     polls(rt, sem, requests, request, waker, steps)
@@ -75,8 +75,8 @@ pub(crate) fn polls_next<L: Ledger, R: Abort>(
     waker: Waker,
     steps: &mut Steps<L>,
 ) -> Option<SemaphorePermit>
-    requires { AreOwn sem.old.line requests.old.items }
-    ensures { AreOwn sem.new.line requests.new.items }
+    requires { AreOwn sem.old requests.old.items }
+    ensures { AreOwn sem.new requests.new.items }
 {
     match requests.pop_front() {
         Some(request) => polls(rt, sem, requests, request, waker, steps),
@@ -91,8 +91,8 @@ pub(crate) fn cancels_next<L: Ledger, R: Abort>(
     requests: &mut VecDeque<Acquire>,
     steps: &mut Steps<L>,
 )
-    requires { AreOwn sem.old.line requests.old.items }
-    ensures { AreOwn sem.new.line requests.new.items }
+    requires { AreOwn sem.old requests.old.items }
+    ensures { AreOwn sem.new requests.new.items }
 {
     if let Some(request) = requests.pop_front() {
         assert!(rt; request.of() == sem.number());

@@ -37,8 +37,8 @@ fn make<L: Ledger, R: Abort>(
     call: &Call,
     steps: &mut Steps<L>,
 )
-    requires { AreOwn sem.old.line requests.old.items }
-    ensures { AreOwn sem.new.line requests.new.items }
+    requires { AreOwn sem.old requests.old.items }
+    ensures { AreOwn sem.new requests.new.items }
 {
     match call {
         Ask(size, waker) => {
@@ -70,7 +70,7 @@ fn calls<L: Ledger, R: Abort>(
     life: &[Line],
     steps: &mut Steps<L>,
 )
-    requires { AreOwn sem.old.line requests.old.items }
+    requires { AreOwn sem.old requests.old.items }
 {
     for (next, free, wanted) in life {
         make(rt, sem, requests, next, steps);

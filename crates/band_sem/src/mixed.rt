@@ -366,8 +366,8 @@ fn request_turn<L: Ledger, R: Abort>(
     row: &mut u64,
     steps: &mut Steps<L>,
 ) -> Result<(), Fail>
-    requires { AreOwn sem.old.line side.old.requests.items }
-    ensures { AreOwn sem.new.line side.new.requests.items }
+    requires { AreOwn sem.old side.old.requests.items }
+    ensures { AreOwn sem.new side.new.requests.items }
 {
     let waker = draws(row, 1000);
     match draws(row, 9) {
@@ -457,8 +457,8 @@ fn turn<L: Ledger, R: Abort>(
     row: &mut u64,
     steps: &mut Steps<L>,
 ) -> Result<(), Fail>
-    requires { AreOwn sem.old.line side.old.requests.items }
-    ensures { AreOwn sem.new.line side.new.requests.items }
+    requires { AreOwn sem.old side.old.requests.items }
+    ensures { AreOwn sem.new side.new.requests.items }
 {
     if draws(row, 2) == 0 {
         request_turn(rt, sem, side, row, steps)
@@ -501,7 +501,7 @@ fn turns<L: Ledger, R: Abort>(
     side: &mut Side,
     steps: &mut Steps<L>,
 ) -> Result<(), Fail>
-    requires { AreOwn sem.old.line side.old.requests.items }
+    requires { AreOwn sem.old side.old.requests.items }
 {
     let mut row = 1;
     for _ in 0..900 {

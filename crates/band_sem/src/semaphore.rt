@@ -1,10 +1,10 @@
 //! The semaphore.
-ghost use Rattle.std.specs.Prelude.{◌≡◌, ℕ, ◌+◌, ◌-◌, ◌*◌, ◌<◌, ◌≤◌, ◌↔◌, length, IsTrue, IsSome, IfSome, OnSome, IfNone, IsErrOf, OnOk, OnErr};
-ghost use Rattle.band_balance.specs.Line.{total, available, drained, overflows, owes_too_much, is_served, requests, entry_named};
+ghost use Rattle.std.specs.Prelude.{◌≡◌, ℕ, ◌+◌, ◌-◌, ◌*◌, ◌<◌, ◌≤◌, ◌↔◌, length, true, IsTrue, IsSome, IfSome, OnSome, IfNone, IsErrOf, OnOk, OnErr};
+ghost use Rattle.band_balance.specs.Line.{total, available, drained, overflows, owes_too_much};
 ghost use Rattle.band_sem.specs.Permit.{new_permit};
 ghost use Rattle.band_sem.specs.Request.{new_request};
 ghost use Rattle.band_sem.specs.Laws.{KeepsOrder, LeavesOthers};
-ghost use Rattle.band_sem.specs.Semaphore.{SemaphoreState, IsLike, IsLawful, is_slot, new_state, new_debts, taken, given_back, forgotten, released, reduced, without_request, TakesWake};
+ghost use Rattle.band_sem.specs.Semaphore.{SemaphoreState, IsLike, IsLawful, HasSlot, new_state, new_debts, serves, taken, given_back, forgotten, released, reduced, shut, without_request, TakesWake};
 ghost use Rattle.band_line.specs.Visits.{Visits};
 ghost use Rattle.band_sem.specs.Shown.{ShowsLine};
 ghost use Rattle.band_sem.specs.Visits.{FewVisits};
@@ -15,7 +15,7 @@ use crate::store::{Entrance, Store};
 use crate::{Acquire, ReduceError, ReleaseError, SemaphorePermit};
 use band_base::{Steps, Waker};
 use band_line::{WaitList, WaiterId};
-use band_row::WaitNode;
+use band_row::{Found, WaitNode};
 use std::alloc::{AllocError, Global};
 use std::marker::Model;
 use std::sync::ledger::Ledger;
@@ -95,12 +95,20 @@ impl Semaphore {
         self.store.held()
     }
 
-    /// The nodes of the line: those linked, from the front on, are debts and requests that wait; the others were granted.
+    /// The nodes of the line: those linked, from the front on, are debts and requests that wait; the others were granted or ended.
     pub fn line(&self) -> &WaitList<WaitNode>
         ensures shows { ShowsLine self.now result.now }
         ensures lawful { IsLawful self.now }
     {
         self.store.line()
+    }
+
+    /// Was it closed?
+    pub fn is_closed(&self) -> bool
+        ensures closed { result ≡ self.now.closed }
+        ensures lawful { IsLawful self.now }
+    {
+        self.store.closed()
     }
 
     /// A request for `n` permits, not polled yet.
@@ -110,9 +118,9 @@ impl Semaphore {
         Acquire::new(self.number(), n)
     }
 
-    /// Takes `n` permits if they are there and nobody waits. It never joins the line.
+    /// Takes `n` permits if they are there, nobody waits and it is open. It never joins the line.
     pub fn try_acquire(&mut self, n: u64) -> Option<SemaphorePermit>
-        ensures served { IsSome result ↔ IsTrue (is_served n self.old.line) }
+        ensures served { IsSome result ↔ IsTrue (serves n self.old) }
         ensures permit { IfSome result (λ permit. permit ≡ new_permit self.old.number n) }
         ensures some { OnSome result (self.new ≡ taken n self.old) }
         ensures none { IfNone result (self.new ≡ self.old) }
@@ -218,6 +226,18 @@ impl Semaphore {
         p.lose();
     }
 
+    /// Closes it: each request that waits is ended and is to be woken, in order, and polls and tries get nothing from
+    /// now on. What was granted or is held stays, and comes back as ever. It takes no memory.
+    pub fn close<L: Ledger>(&mut self, steps: &mut Steps<L>)
+        ensures state { IsLike (shut self.old) self.new }
+        // Where it was closed before, nothing changes.
+        ensures again { self.old.closed ≡ true → self.new ≡ self.old }
+        ensures lawful { IsLawful self.new }
+        ensures visits { FewVisits self.old self.new steps.old steps.new }
+    {
+        self.store.close(steps);
+    }
+
     /// Takes the oldest waker to wake, if there is one.
     pub fn take_wake(&mut self) -> Option<Waker>
         ensures woken { TakesWake self.old result self.new }
@@ -227,7 +247,7 @@ impl Semaphore {
         self.store.take_wake()
     }
 
-    /// A first poll: it is served at once, or it joins under a new slot.
+    /// A first poll: it is served at once, or it joins under a new slot, unless the semaphore is closed.
     pub(crate) fn enter<L: Ledger>(
         &mut self,
         size: u64,
@@ -241,14 +261,14 @@ impl Semaphore {
         self.store.enter(size, waker, steps)
     }
 
-    /// A later poll, which tells how many permits it takes if it was granted.
+    /// A later poll, which tells how many permits it takes if it was granted, and whether it was ended.
     pub(crate) fn poll_slot<L: Ledger>(
         &mut self,
         slot: WaiterId,
         waker: Waker,
         steps: &mut Steps<L>,
-    ) -> Option<u64>
-        requires here { IsSome (entry_named (is_slot slot) (requests self.old.line)) }
+    ) -> Found
+        requires here { HasSlot slot self.old }
         ensures polls { PollsSlot slot waker.0 self.old result self.new }
         ensures lawful { IsLawful self.new }
         ensures visits { Visits 1 2 steps.old steps.new }
@@ -256,9 +276,9 @@ impl Semaphore {
         self.store.poll(slot, waker, steps)
     }
 
-    /// Ends the request under this slot. Then the line settles.
+    /// Takes out the request under this slot. Then the line settles.
     pub(crate) fn cancel<L: Ledger>(&mut self, slot: WaiterId, steps: &mut Steps<L>)
-        requires here { IsSome (entry_named (is_slot slot) (requests self.old.line)) }
+        requires here { HasSlot slot self.old }
         ensures state { IsLike (without_request slot self.old) self.new }
         ensures others { LeavesOthers slot self.old self.new }
         ensures order { KeepsOrder self.old.line self.new.line }

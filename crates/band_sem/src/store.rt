@@ -1,9 +1,9 @@
 //! What a semaphore keeps: its counts, its line, and the wakers to wake.
-ghost use Rattle.std.specs.Prelude.{◌≡◌, ◌+◌, ◌*◌, ◌<◌, ◌≤◌, ◌↔◌, false, length, IsTrue, IsSome, pos, ◌+ℤ◌, IsOk, OnOk, OnErr, IsErrOf};
+ghost use Rattle.std.specs.Prelude.{◌≡◌, ◌+◌, ◌*◌, ◌<◌, ◌≤◌, ◌↔◌, false, length, IsTrue, true, pos, ◌+ℤ◌, IsOk, OnOk, OnErr, IsErrOf};
 ghost use Rattle.std.specs.Bool.{OnTrue};
-ghost use Rattle.band_balance.specs.Line.{total, available, drained, overflows, owes_too_much, is_served, requests, entry_named};
+ghost use Rattle.band_balance.specs.Line.{total, available, drained, overflows, owes_too_much, is_served};
 ghost use Rattle.band_line.specs.Visits.{Visits};
-ghost use Rattle.band_sem.specs.Semaphore.{IsLike, is_slot, new_state, new_debts, taken, given_back, forgotten, released, reduced, without_request, TakesWake};
+ghost use Rattle.band_sem.specs.Semaphore.{IsLike, HasSlot, new_state, new_debts, serves, taken, given_back, forgotten, released, reduced, shut, without_request, TakesWake};
 ghost use Rattle.band_sem.specs.Visits.{FewVisits};
 ghost use Rattle.band_sem.specs.Kept.Store.{line_in, state_of, CountsFit, IsSound, Enters, EntersIn, PollsSlot};
 
@@ -22,6 +22,8 @@ pub(crate) enum Entrance {
     Served,
     /// It waits under this slot.
     Joined(WaiterId),
+    /// The semaphore is closed.
+    Closed,
 }
 
 /// The state of a semaphore.
@@ -31,10 +33,11 @@ pub(crate) struct Store {
     number: u64,
     held: u64,
     row: Row,
+    closed: bool,
 }
 
 // A semaphore in which nobody ever waited takes no more than this.
-const _: () = prove!(size_of::<Store>() == 72);
+const _: () = prove!(size_of::<Store>() == 80);
 
 // An enum around it grows by 8 bytes, and not by 16.
 const _: () = prove!(align_of::<Store>() == 8);
@@ -50,6 +53,7 @@ impl Store {
             number,
             held: 0,
             row: Row::new(alloc, permits),
+            closed: false,
         }
     }
 
@@ -87,6 +91,12 @@ impl Store {
         ensures { result.now ≡ self.now.row.list }
     {
         self.row.list()
+    }
+
+    pub(crate) fn closed(&self) -> bool
+        ensures { result ≡ self.now.closed }
+    {
+        self.closed
     }
 
     /// How many may be taken without waiting.
@@ -127,12 +137,12 @@ impl Store {
     /// Serves at once, or changes nothing.
     pub(crate) fn try_serve(&mut self, size: u64) -> bool
         requires { IsSound self.old }
-        ensures served { result ≡ is_served size (line_in self.old) }
+        ensures served { result ≡ serves size (state_of self.old) }
         ensures yes { OnTrue result (state_of self.new ≡ taken size (state_of self.old)) }
         ensures no { result ≡ false → state_of self.new ≡ state_of self.old }
         ensures sound { IsSound self.new }
     {
-        if self.serves(size) {
+        if !self.closed && self.serves(size) {
             self.serve(size);
             return true;
         }
@@ -211,7 +221,7 @@ impl Store {
         }
     }
 
-    /// Serves a first poll at once, or lets it join under a new slot.
+    /// Serves a first poll at once, or lets it join under a new slot, unless the semaphore is closed.
     pub(crate) fn enter<L: Ledger>(
         &mut self,
         size: u64,
@@ -223,6 +233,9 @@ impl Store {
         ensures sound { IsSound self.new }
         ensures visits { EntersIn result steps.old steps.new }
     {
+        if self.closed {
+            return Ok(Entrance::Closed);
+        }
         if self.serves(size) {
             self.serve(size);
             return Ok(Entrance::Served);
@@ -306,15 +319,15 @@ impl Store {
         self.add(count, steps);
     }
 
-    /// One that was granted takes its permits, whose count is told, and one that waits leaves its new waker.
+    /// One that was granted takes its permits, whose count is told, one that was ended leaves, and one that waits leaves its new waker.
     pub(crate) fn poll<L: Ledger>(
         &mut self,
         slot: WaiterId,
         waker: Waker,
         steps: &mut Steps<L>,
-    ) -> Option<u64>
+    ) -> Found
         requires sound { IsSound self.old }
-        requires here { IsSome (entry_named (is_slot slot) (requests (line_in self.old))) }
+        requires here { HasSlot slot (state_of self.old) }
         ensures polls { PollsSlot slot waker.0 (state_of self.old) result (state_of self.new) }
         ensures sound { IsSound self.new }
         ensures visits { Visits 1 2 steps.old steps.new }
@@ -322,17 +335,17 @@ impl Store {
         match self.row.poll(slot, waker, steps) {
             Found::Granted(size) => {
                 self.held += size;
-                Some(size)
+                Found::Granted(size)
             }
-            Found::Waits => None,
-            Found::Ended => unreachable!(),
+            Found::Waits => Found::Waits,
+            Found::Ended => Found::Ended,
         }
     }
 
-    /// Ends the request under this slot. Then the line settles.
+    /// Takes out the request under this slot. Then the line settles.
     pub(crate) fn cancel<L: Ledger>(&mut self, slot: WaiterId, steps: &mut Steps<L>)
         requires sound { IsSound self.old }
-        requires here { IsSome (entry_named (is_slot slot) (requests (line_in self.old))) }
+        requires here { HasSlot slot (state_of self.old) }
         ensures state { IsLike (without_request slot (state_of self.old)) (state_of self.new) }
         ensures sound { IsSound self.new }
         ensures visits { FewVisits (state_of self.old) (state_of self.new) steps.old steps.new }
@@ -340,5 +353,21 @@ impl Store {
         let all = self.in_all();
         self.row.cancel(slot, steps);
         self.free = self.free_of(all);
+    }
+
+    /// Closes the semaphore, where it is open: all that wait are ended. It takes no memory.
+    pub(crate) fn close<L: Ledger>(&mut self, steps: &mut Steps<L>)
+        requires { IsSound self.old }
+        ensures state { IsLike (shut (state_of self.old)) (state_of self.new) }
+        ensures again { self.old.closed ≡ true → state_of self.new ≡ state_of self.old }
+        ensures sound { IsSound self.new }
+        ensures visits { FewVisits (state_of self.old) (state_of self.new) steps.old steps.new }
+    {
+        if self.closed {
+            return;
+        }
+        self.closed = true;
+        let free = self.free();
+        self.row.close(free, steps);
     }
 }

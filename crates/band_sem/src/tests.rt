@@ -22,7 +22,7 @@ fn pends<L: Ledger, R: Abort>(
     steps: &mut Steps<L>,
 )
     requires number { request.old.of ≡ sem.old.number }
-    requires own { IsOwn request.old.stage request.old.size sem.old.line }
+    requires own { IsOwn request.old.stage request.old.size sem.old }
     ensures polls { Polls request.old waker.0 sem.old (Ok poll.Pending) request.new sem.new }
     ensures lawful { IsLawful sem.new }
 {
@@ -45,7 +45,7 @@ fn gets<L: Ledger, R: Abort>(
     steps: &mut Steps<L>,
 ) -> SemaphorePermit
     requires number { request.old.of ≡ sem.old.number }
-    requires own { IsOwn request.old.stage request.old.size sem.old.line }
+    requires own { IsOwn request.old.stage request.old.size sem.old }
     ensures polls { Polls request.old waker.0 sem.old (Ok (poll.Ready result)) request.new sem.new }
     ensures lawful { IsLawful sem.new }
 {

@@ -67,6 +67,29 @@ fn plays_on_amounts(rt: HostRuntime) -> Result<(), Fail> {
 }
 
 #[test]
+fn plays_on_closing(rt: HostRuntime) -> Result<(), Fail> {
+    let table = [
+        (
+            "sem s 1\nask a s 2 7\nask b s 1 8\nclose s\nstatus s\npoll a 1\npoll a 1\ndrop b\nask c s 0 3\ntry d s 1\ndrain s 5\n",
+            "ok\npending\npending\nok\nwake 7\nwake 8\navailable 1 free 1 waiting 0 granted 0 held 0\nclosed\nrefused unknown\nok\nrefused closed\nrefused closed\ndrained 1\n",
+        ),
+        (
+            "sem s 1\nask a s 1 1\nask b s 1 2\ndrop a\nclose s\nclose s\npoll b 3\nreduce s 2\ndrop b\nstatus s\n",
+            "ok\nready\npending\nok\nwake 2\nok\nok\nready\nok\nok\navailable 0 free -1 waiting 0 granted 0 held 0\n",
+        ),
+        (
+            "sem s 1\nask a s 3 1\nreduce s 2\nclose s\nrelease s 2\nstatus s\n",
+            "ok\npending\nok\nok\nwake 1\nok\navailable 1 free 1 waiting 0 granted 0 held 0\n",
+        ),
+        ("mutex m\nclose m\nclose x\n", "ok\nrefused kind\nrefused unknown\n"),
+    ];
+    for (script, written) in table {
+        compare(&rt, rt.alloc(), script, written)?;
+    }
+    Ok(())
+}
+
+#[test]
 fn plays_on_locks(rt: HostRuntime) -> Result<(), Fail> {
     let table = [
         (LOCKS, LOCKS_OUT),

@@ -14,5 +14,6 @@ pub mod refusals;
 pub mod scripts;
 pub mod semaphores;
 pub mod signals;
+pub mod stops;
 pub mod waiters;
 pub mod wakers;

@@ -8,8 +8,8 @@ use std::sync::ledger::Ledger;
 
 /// Another takes a permit without waiting, and gives it back.
 pub fn another_comes_and_goes<L: Ledger>(mine: &Acquire, sem: &mut Semaphore, steps: &mut Steps<L>)
-    requires { IsOwn mine.now.stage mine.now.size sem.old.line }
-    ensures own { IsOwn mine.now.stage mine.now.size sem.new.line }
+    requires { IsOwn mine.now.stage mine.now.size sem.old }
+    ensures own { IsOwn mine.now.stage mine.now.size sem.new }
     ensures held { sem.old.held ≤ sem.new.held }
 {
     if let Some(permit) = sem.try_acquire(1) {
@@ -23,8 +23,8 @@ pub fn permits_come_and_go<L: Ledger>(
     sem: &mut Semaphore,
     steps: &mut Steps<L>,
 ) -> bool
-    requires { IsOwn mine.now.stage mine.now.size sem.old.line }
-    ensures own { IsOwn mine.now.stage mine.now.size sem.new.line }
+    requires { IsOwn mine.now.stage mine.now.size sem.old }
+    ensures own { IsOwn mine.now.stage mine.now.size sem.new }
     ensures held { sem.old.held ≤ sem.new.held }
 {
     match sem.release(1, steps) {
@@ -42,10 +42,10 @@ pub fn another_forgets(
     permit: SemaphorePermit,
     sem: &mut Semaphore,
 ) -> Option<Waker>
-    requires own { IsOwn mine.now.stage mine.now.size sem.old.line }
+    requires own { IsOwn mine.now.stage mine.now.size sem.old }
     requires number { permit.of ≡ sem.old.number }
     requires held { permit.count ≤ sem.old.held }
-    ensures own { IsOwn mine.now.stage mine.now.size sem.new.line }
+    ensures own { IsOwn mine.now.stage mine.now.size sem.new }
     ensures held { sem.old.held ≤ sem.new.held + permit.count }
 {
     sem.forget(permit);
@@ -59,11 +59,11 @@ pub fn another_asks<L: Ledger>(
     sem: &mut Semaphore,
     steps: &mut Steps<L>,
 ) -> Result<Poll<SemaphorePermit>, PollError>
-    requires own { IsOwn mine.now.stage mine.now.size sem.old.line }
+    requires own { IsOwn mine.now.stage mine.now.size sem.old }
     requires number { other.of ≡ sem.old.number }
-    requires others { IsOwn other.stage other.size sem.old.line }
+    requires others { IsOwn other.stage other.size sem.old }
     requires apart { SlotsDiffer mine.now.stage other.stage }
-    ensures { IsOwn mine.now.stage mine.now.size sem.new.line }
+    ensures { IsOwn mine.now.stage mine.now.size sem.new }
 {
     let answer = other.poll_once(sem, Waker(0), steps);
     other.cancel(sem, steps);
@@ -73,7 +73,7 @@ pub fn another_asks<L: Ledger>(
 /// Another asks once more and gives up, and the oldest waker is taken: no fewer permits are held.
 pub fn another_gives_up<L: Ledger>(mut other: Acquire, sem: &mut Semaphore, steps: &mut Steps<L>)
     requires number { other.of ≡ sem.old.number }
-    requires own { IsOwn other.stage other.size sem.old.line }
+    requires own { IsOwn other.stage other.size sem.old }
     ensures number { sem.new.number ≡ sem.old.number }
     ensures held { sem.old.held ≤ sem.new.held }
 {
@@ -96,7 +96,7 @@ pub fn gives_both_back<L: Ledger>(
     requires two { two.of ≡ sem.old.number }
     requires held { one.count + two.count ≤ sem.old.held }
     requires number { other.of ≡ sem.old.number }
-    requires own { IsOwn other.stage other.size sem.old.line }
+    requires own { IsOwn other.stage other.size sem.old }
     ensures held { sem.old.held ≤ sem.new.held + (one.count + two.count) }
 {
     another_gives_up(other, sem, steps);

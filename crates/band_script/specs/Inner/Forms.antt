@@ -14,6 +14,7 @@ use Rattle.band_script.specs.Call.{ForReaders, parts, written}
 abbrev pub word_of : Form → List ℕ
 word_of (OneName one_name.Mutex) = codes "mutex"
 word_of (OneName one_name.Drop) = codes "drop"
+word_of (OneName one_name.Close) = codes "close"
 word_of (OneName one_name.Forget) = codes "forget"
 word_of (OneName one_name.Downgrade) = codes "downgrade"
 word_of (OneName one_name.Status) = codes "status"

@@ -1,4 +1,4 @@
-use Rattle.std.proofs.Common.{◌∙◌, arith}
+use Rattle.std.proofs.Common.{arith}
 use Rattle.std.proofs.lemmas.Grind.{common_steps}
 use Rattle.band_play.proofs.BulkTexts.{zero_is}
 use Rattle.band_play.proofs.bulk.push_poll.Goals as goal

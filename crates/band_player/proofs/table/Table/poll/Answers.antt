@@ -1,13 +1,15 @@
-use Rattle.std.proofs.Common.{◌≡◌, ℕ, List, Some, refl, sym, ap, ◌∙◌, arith, rules}
+use Rattle.std.proofs.Common.{◌≡◌, ℕ, List, Option, Some, refl, sym, ap, ◌∙◌, subst, arith, rules}
 use Rattle.std.specs.List.{slice_set}
 use Rattle.band_player.specs.Apart.{at}
-use Rattle.band_player.specs.Moves.{object_place}
-use Rattle.band_player.specs.Names.{is_object, thing_from, thing_at}
+use Rattle.band_balance.proofs.Rules.{bytes_told}
+use Rattle.band_player.specs.Moves.{object_place, left_by}
+use Rattle.band_player.specs.Thing.{Thing}
+use Rattle.band_player.specs.Names.{Updated, is_object, thing_from, thing_at}
 use Rattle.band_player.proofs.Calls.{polls_token, polls_object, polls_nothing}
 use Rattle.band_player.proofs.Follow.{answered}
 use Rattle.band_player.proofs.Named.{object_from}
 use Rattle.band_player.proofs.Polled.{can_poll, was_polled}
-use Rattle.band_player.proofs.Updates.{token_there, no_token_kind, token_filled, apart_filled}
+use Rattle.band_player.proofs.Updates.{token_there, no_token_kind, token_filled, apart_filled, updated_twice}
 use Rattle.band_player.proofs.Visits.{pays_at}
 use Rattle.band_player.proofs.Fitting.{known_token}
 use Rattle.band_player.proofs.table.Table.poll.Goals as goal
@@ -66,7 +68,9 @@ returns-clause-answered g c = answered _ _ _ _ c.requires.sound (λ state stands
     let there = (known_token c.args.self.now c.args.name.now token c.place-place.result c.requires.sound was c.place-place.ensures).there object c.index_mut-object.ensures.value in
     polls_token c.args.self.now c.requires.quiet state stands _ c.args.name.now c.args.waker.0 c.in-Ok-poll.reply token c.in-Ok-poll.token object c.poll.new.object
     (token_there c.args.self.now.names c.args.name.now token was) there c.in-Ok-poll.ensures.ok
-    (token_filled c.args.self.now.names c.args.name.now (c.get_mut.follows.lender c.fill.new.self) token _ _ was c.fill.ensures (c.get_mut.follows.holds c.fill.new.self (search rules)))
+    (let filled = token_filled c.args.self.now.names c.args.name.now (c.get_mut.follows.lender c.fill.new.self) token _ _ was c.fill.ensures (c.get_mut.follows.holds c.fill.new.self (search rules)) in
+    subst (λ (thing : Option Thing). Updated (thing_at c.args.self.now.names) (thing_at c.end_closed.new.self) c.args.name.now (left_by c.in-Ok-poll.reply thing))
+    (filled.here c.args.name.now (bytes_told.itself c.args.name.now)) (updated_twice filled c.end_closed.ensures))
     (ap (λ k. slice_set c.args.self.now.objects.items k c.poll.new.object) c.place-place.ensures) c.place-place.ensures)
 
 pub returns-clause-visits : goal.returns-clause-visits

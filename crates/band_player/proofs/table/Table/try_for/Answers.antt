@@ -1,15 +1,13 @@
-use Rattle.std.proofs.Common.{Some, refl, sym, ap, ◌∙◌, subst, ℕ}
+use Rattle.std.proofs.lemmas.Bool.{and_from}
+use Rattle.std.proofs.Common.{not, Some, refl, sym, ap, ◌∙◌, subst, ℕ}
 use Rattle.std.specs.List.{slice_set}
 use Rattle.std.specs.Vec.{with_item}
-use Rattle.std.proofs.lemmas.Option.{same_Some}
-use Rattle.band_balance.specs.Line.{is_served}
 use Rattle.band_balance.specs.Object.{tag}
 use Rattle.band_balance.specs.Rule as rules
 use Rattle.band_player.specs.Moves.{mode_of, size_for, try_call}
 use Rattle.band_player.specs.Names.{Updated, thing_at}
-use Rattle.band_player.specs.Objects.{ObjectState}
 use Rattle.band_player.specs.Thing as things
-use Rattle.band_player.proofs.Calls.{refused_for, plan_tries, tried_nothing, tried, works_try, name_taken}
+use Rattle.band_player.proofs.Calls.{refused_for, plan_tries, tried_nothing, tried, works_try, name_taken, closed_refused}
 use Rattle.band_player.proofs.Fitting.{numbered_in}
 use Rattle.band_player.proofs.Follow.{answered, wanting}
 use Rattle.band_player.proofs.Lists.{some_at, set_itself}
@@ -28,33 +26,43 @@ returns-then-is_live-clause-answered c = answered _ _ _ _ c.requires.sound (λ s
     (c.is_live.ensures.0 c.if-is_live.true) _ (size_for c.args.want)
     (rules.Try (tag (mode_of c.args.want) c.args.made)) (plan_tries c.args.want c.args.made c.args.of.now state))
 
+pub returns-then-is_closed-clause-answered : goal.returns-then-is_closed-clause-answered
+returns-then-is_closed-clause-answered c = answered _ _ _ _ c.requires.sound (λ state stands.
+    let object = c.index_mut-object.result.now in
+    let there = c.in-Ok.ensures.there object c.index_mut-object.ensures.value in
+    closed_refused c.args.self.now c.requires.quiet state stands _ (λ n. refl) (set_itself c.args.self.now.objects.items c.in-Ok.place object there) (mode_of c.args.want) c.args.made c.args.of.now c.in-Ok.place
+    c.in-Ok.ensures.is object there (free_name _ c.is_live.result c.is_live.ensures.1 c.if-is_live.false) (sym c.is_closed.ensures ∙ c.if-is_closed.true) _ (size_for c.args.want)
+    (rules.Try (tag (mode_of c.args.want) c.args.made)) (plan_tries c.args.want c.args.made c.args.of.now state))
+
 pub returns-then-not-would_serve-clause-answered : goal.returns-then-not-would_serve-clause-answered
 returns-then-not-would_serve-clause-answered c = answered _ _ _ _ c.requires.sound (λ state stands.
-    tried_nothing c.args.self.now c.requires.quiet state stands c.args.self.now (λ n. refl) c.args.of.now c.in-Ok.place c.index.result.now
-    (c.in-Ok.ensures.there c.index.result.now c.index.ensures) c.args.want c.args.made c.in-Ok.ensures.is
-    (free_name _ c.is_live.result c.is_live.ensures.1 c.if-is_live.false) (sym c.would_serve.ensures ∙ c.if-not-would_serve.true) refl)
+    let object = c.index_mut-object.result.now in
+    let there = c.in-Ok.ensures.there object c.index_mut-object.ensures.value in
+    tried_nothing c.args.self.now c.requires.quiet state stands _ (λ n. refl) c.args.of.now c.in-Ok.place object there c.args.want c.args.made c.in-Ok.ensures.is
+    (free_name _ c.is_live.result c.is_live.ensures.1 c.if-is_live.false) (sym c.is_closed.ensures ∙ c.if-is_closed.false) (sym c.would_serve.ensures ∙ c.if-not-would_serve.true)
+    (set_itself c.args.self.now.objects.items c.in-Ok.place object there))
+
+pub take-requires-clause-served : goal.take-requires-clause-served
+take-requires-clause-served c = and_from _ _ (ap not (sym c.is_closed.ensures ∙ c.if-is_closed.false)) (sym c.would_serve.ensures ∙ c.if-not-would_serve.false)
 
 pub returns-in_err-take-clause-wanting : goal.returns-in_err-take-clause-wanting
 returns-in_err-take-clause-wanting c =
     let object = c.index_mut-object.result.now in
     let there = c.in-Ok.ensures.there object c.index_mut-object.ensures.value in
-    let same = same_Some c.index.result.now object (sym (c.in-Ok.ensures.there c.index.result.now c.index.ensures) ∙ there) in
     on_err c.from_residual.result _ (wanting c.args.self.now c.requires.sound c.requires.quiet _ c.in_err-take.ensures.err.0
     (ap (slice_set c.args.self.now.objects.items c.in-Ok.place) c.in_err-take.ensures.err.1 ∙ set_itself c.args.self.now.objects.items c.in-Ok.place object there) _ (λ state stands.
     works_try c.args.self.now c.requires.quiet state stands c.args.self.now c.args.want c.args.made c.args.of.now c.in-Ok.place c.in-Ok.ensures.is
-    (free_name _ c.is_live.result c.is_live.ensures.1 c.if-is_live.false) object there
-    (size_for c.args.want object.kind) refl (ap (λ (o : ObjectState). is_served (size_for c.args.want o.kind) o.line) (sym same) ∙ sym c.would_serve.ensures ∙ c.if-not-would_serve.false)))
+    (free_name _ c.is_live.result c.is_live.ensures.1 c.if-is_live.false) object there (sym c.is_closed.ensures ∙ c.if-is_closed.false)
+    (size_for c.args.want object.kind) refl (sym c.would_serve.ensures ∙ c.if-not-would_serve.false)))
 
 pub returns-clause-answered : goal.returns-clause-answered
 returns-clause-answered c = answered _ _ _ _ c.requires.sound (λ state stands.
     let object = c.index_mut-object.result.now in
     let there = c.in-Ok.ensures.there object c.index_mut-object.ensures.value in
-    let same = same_Some c.index.result.now object (sym (c.in-Ok.ensures.there c.index.result.now c.index.ensures) ∙ there) in
     tried c.args.self.now c.requires.quiet state stands (record { names = c.take.new.self; objects = with_item c.args.self.now.objects c.in-Ok.place c.take.new.object; last = c.in-Ok.place })
     c.args.want c.args.made c.args.of.now c.in-Ok.place c.in-Ok.ensures.is (free_name _ c.is_live.result c.is_live.ensures.1 c.if-is_live.false) object there
-    (size_for c.args.want object.kind) c.take.new.object refl
-    (ap (λ (o : ObjectState). is_served (size_for c.args.want o.kind) o.line) (sym same) ∙ sym c.would_serve.ensures
-    ∙ c.if-not-would_serve.false) c.in_ok-take.ensures.taken c.in_ok-take.ensures.steady
+    (sym c.is_closed.ensures ∙ c.if-is_closed.false) (size_for c.args.want object.kind) c.take.new.object refl
+    (sym c.would_serve.ensures ∙ c.if-not-would_serve.false) c.in_ok-take.ensures.taken c.in_ok-take.ensures.steady
     (subst (λ (k : ℕ). Updated (thing_at c.args.self.now.names) (thing_at c.take.new.self) c.args.made
     (Some (things.Holding (record { mode = mode_of c.args.want; of = k; count = size_for c.args.want object.kind }))))
     (numbered_in c.args.self.now c.in-Ok.place c.requires.sound object there) c.in_ok-take.ensures.ok) refl refl)

@@ -1,10 +1,12 @@
-use Rattle.std.proofs.Common.{◌+ℤ◌, pos, refl, ◌∙◌, arith}
+use Rattle.std.proofs.Common.{◌+ℤ◌, pos, refl, sym, subst, arith}
 use Rattle.std.proofs.lemmas.Int.{ints, to_z-of_z}
 use Rattle.band_balance.specs.Line.{give_back}
 use Rattle.band_partial.specs.PartialLine.{line_of}
-use Rattle.band_row.specs.Row.{part}
+use Rattle.std.specs.List.Sorted.{IsPermutation}
+use Rattle.std.proofs.lemmas.List.Sorted.{IsPermutation-refl}
+use Rattle.band_row.specs.Row.{ended_of, part}
 use Rattle.band_sem.specs.Kept.Store.{line_in}
-use Rattle.band_sem.proofs.Bridge.{SettlesTo, gives}
+use Rattle.band_sem.proofs.Bridge.{SettlesTo, gives, gives_closing}
 use Rattle.band_sem.proofs.store.Store.add.Given.{Over}
 use Rattle.band_sem.proofs.store.Store.add.Goals as goal
 
@@ -23,7 +25,19 @@ module _ (g : Over) (c : goal.After-self-1 g) where
   settled = gives c.args.self.now c.requires.sound c.pass_on.new.self c.args.count c.in_all.result c.requires.fits c.pass_on.ensures.part c.in_all.ensures
 
 pub returns-clause-state : goal.returns-clause-state
-returns-clause-state g c = record { number = refl; line = (settled g c).alike; held = refl }
+returns-clause-state g c = record {
+  number = refl;
+  line = (settled g c).alike;
+  held = refl;
+  closed = refl;
+  ended = subst (IsPermutation (ended_of c.args.self.now.row.list)) (sym c.pass_on.ensures.ended) (IsPermutation-refl (ended_of c.args.self.now.row.list));
+}
 
 pub returns-clause-sound : goal.returns-clause-sound
-returns-clause-sound g c = record { row = record { row = c.pass_on.ensures.row; none_ended = c.pass_on.ensures.ended ∙ c.requires.sound.row.none_ended }; settled = c.pass_on.ensures.settled; free = c.free_of-self.ensures; fit = (settled g c).fit }
+returns-clause-sound g c = record {
+  row = c.pass_on.ensures.row;
+  settled = c.pass_on.ensures.settled;
+  free = c.free_of-self.ensures;
+  fit = (settled g c).fit;
+  closing = gives_closing c.args.self.now c.requires.sound c.pass_on.new.self c.args.count c.pass_on.ensures.ended (settled g c).alike;
+}

@@ -18,8 +18,8 @@ module _ (c : goal.After-self-2-1) where
   less : c.of-self.result ≡ c.args.self.now.free -ℤ pos c.args.size
   less = grind (arith, ints, to_z-of_z)
 
-  after : Becomes (taken c.args.size (state_of c.args.self.now)) (record { free = c.of-self.result; number = c.args.self.now.number; held = c.args.self.now.held + c.args.size; row = c.draw.new.self })
-  after = serves c.args.self.now c.requires.sound c.draw.new.self (record { row = c.draw.ensures.row; none_ended = c.draw.ensures.ended ∙ c.requires.sound.row.none_ended }) c.args.size c.of-self.result there c.draw.ensures.part less
+  after : Becomes (taken c.args.size (state_of c.args.self.now)) (record { free = c.of-self.result; number = c.args.self.now.number; held = c.args.self.now.held + c.args.size; row = c.draw.new.self; closed = c.args.self.now.closed })
+  after = serves c.args.self.now c.requires.sound c.draw.new.self c.draw.ensures.row c.draw.ensures.ended c.args.size c.of-self.result there c.draw.ensures.part less
 
 pub returns-clause-state : goal.returns-clause-state
 returns-clause-state c = (after c).is

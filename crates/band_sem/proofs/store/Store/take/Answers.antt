@@ -1,4 +1,4 @@
-use Rattle.std.proofs.Common.{◌≡◌, ◌≤◌, ◌-ℤ◌, pos, ◌∙◌, arith, subst}
+use Rattle.std.proofs.Common.{◌≡◌, ◌≤◌, ◌-ℤ◌, pos, arith, subst}
 use Rattle.std.proofs.lemmas.Int.{ints, to_z-of_z}
 use Rattle.band_partial.proofs.Follows.{available-shown}
 use Rattle.band_row.specs.Row.{part}
@@ -17,8 +17,8 @@ module _ (c : goal.After-self-1) where
   less : c.of-self.result ≡ c.args.self.now.free -ℤ pos c.args.count
   less = search (arith, ints, to_z-of_z, c.of-self.ensures)
 
-  after : Becomes (reduced c.args.count (state_of c.args.self.now)) (record { free = c.of-self.result; number = c.args.self.now.number; held = c.args.self.now.held; row = c.draw.new.self })
-  after = draws c.args.self.now c.requires.sound c.draw.new.self (record { row = c.draw.ensures.row; none_ended = c.draw.ensures.ended ∙ c.requires.sound.row.none_ended }) c.args.count c.of-self.result there c.draw.ensures.part less
+  after : Becomes (reduced c.args.count (state_of c.args.self.now)) (record { free = c.of-self.result; number = c.args.self.now.number; held = c.args.self.now.held; row = c.draw.new.self; closed = c.args.self.now.closed })
+  after = draws c.args.self.now c.requires.sound c.draw.new.self c.draw.ensures.row c.draw.ensures.ended c.args.count c.of-self.result there c.draw.ensures.part less
 
 pub returns-clause-state : goal.returns-clause-state
 returns-clause-state c = (after c).is
