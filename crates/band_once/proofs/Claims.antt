@@ -23,8 +23,8 @@ served : (request request' : Request) (waker : ℕ) (old new : SemaphoreState) (
 served request request' waker old new token polls = at request.stage polls
   where
     at : (stage : Stage) → PollsAt stage request waker old (Ok (Ready token)) request' new → (token ≡ permit_for request) × (new.held ≡ old.held + request.size)
-    at stages.NotPolled (is_served, gives, takes, left) = (gives, ap (λ (s : SemaphoreState). s.held) takes)
-    at (stages.Joined slot) (there, gives, receives, left) = (gives, ap (λ (s : SemaphoreState). s.held) receives)
+    at stages.NotPolled (not_shut, is_served, gives, takes, left) = (gives, ap (λ (s : SemaphoreState). s.held) takes)
+    at (stages.Joined slot) (live, there, gives, receives, left) = (gives, ap (λ (s : SemaphoreState). s.held) receives)
     at stages.Finished (refused, same, left) = cc
 
 -- and one that waits is of the same semaphore
@@ -32,8 +32,8 @@ waits : (request request' : Request) (waker : ℕ) (old new : SemaphoreState) �
 waits request request' waker old new polls = at request.stage polls
   where
     at : (stage : Stage) → PollsAt stage request waker old (Ok Pending) request' new → request'.of ≡ request.of
-    at stages.NotPolled (is_waiting, (slot, fresh, joins, left)) = ap (λ (r : Request). r.of) left
-    at (stages.Joined slot) (none, leaves, left) = ap (λ (r : Request). r.of) left
+    at stages.NotPolled (not_shut, is_waiting, (slot, fresh, joins, left)) = ap (λ (r : Request). r.of) left
+    at (stages.Joined slot) (live, none, leaves, left) = ap (λ (r : Request). r.of) left
     at stages.Finished (refused, same, left) = cc
 
 module _ (old new : SemaphoreState) where

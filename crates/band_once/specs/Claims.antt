@@ -25,7 +25,7 @@ claim_of Finished = Nothing
 abbrev pub IsCounted : Claim → SemaphoreState → Type 0
 IsCounted Nothing permit = Unit {0}
 IsCounted (Awaits request) permit =
-    (request.of ≡ permit.number) × IsOwn request.stage request.size permit.line
+    (request.of ≡ permit.number) × IsOwn request.stage request.size permit
 IsCounted (Has token) permit = (token.of ≡ permit.number) × (1 ≤ permit.held)
 
 -- two have no slot in common, and not both have the token

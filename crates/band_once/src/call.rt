@@ -1,5 +1,5 @@
 //! What the calls of all cells share: a call asks for the permit, and ends.
-ghost use Rattle.std.specs.Prelude.{◌≡◌, ◌≢◌};
+ghost use Rattle.std.specs.Prelude.{◌≡◌, ◌≢◌, IsErrOf};
 ghost use Rattle.band_sem.specs.Request as stages;
 ghost use Rattle.band_sem.specs.Semaphore.{IsLike, given_back};
 ghost use Rattle.band_sem.specs.Whole.{IsWhole};
@@ -35,7 +35,8 @@ pub enum Asked<P> {
 
 /// What a `PollError` of a driven state is told as.
 pub(crate) fn tell(error: PollError) -> PollError
-    ensures { result ≡ told error }
+    ensures told { result ≡ told error }
+    ensures never_closed { result ≢ PollError.Closed }
 {
     match error {
         PollError::NoMemory => PollError::NoMemory,
@@ -86,6 +87,7 @@ impl<P> CallStage<P> {
         requires counted { IsCounted (claim_of self.old) permit.old }
         requires one { IsForOne self.old }
         requires whole { IsWhole 1 permit.old }
+        ensures never_closed { IsErrOf result PollError.Closed → ⊥ }
         ensures asks { Asks is_there waker.0 self.old permit.old result self.new permit.new }
         ensures counted { KeepsCounted (claim_of self.old) (claim_after result self.new) permit.old permit.new }
         ensures one { IsForOne self.new }
@@ -120,6 +122,7 @@ impl<P> CallStage<P> {
         requires one { request.size ≡ 1 }
         requires whole { IsWhole 1 permit.old }
         requires unfinished { request.stage ≢ stages.Finished }
+        ensures never_closed { IsErrOf result PollError.Closed → ⊥ }
         ensures requests { Requests request init waker.0 permit.old result self.new permit.new }
         ensures counted { KeepsCounted (Awaits request) (claim_after result self.new) permit.old permit.new }
         ensures one { IsForOne self.new }

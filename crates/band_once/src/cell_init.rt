@@ -52,6 +52,8 @@ impl<P: Polled> CellInit<P> {
         requires { IsCounted (claim_of self.old) cell.old.permit }
         ensures polls { PollsCell tt published P.moves waker.0 self.old cell.old result self.new cell.new }
         ensures finished { IsErrOf result PollError.Finished ↔ (self.old ≡ stage.Finished) }
+        // Its permit is never closed.
+        ensures never_closed { IsErrOf result PollError.Closed → ⊥ }
         ensures counted { KeepsCounted (claim_of self.old) (claim_of self.new) cell.old.permit cell.new.permit }
         ensures one { IsForOne self.old }
         ensures whole { IsWhole 1 cell.new.permit }
@@ -80,6 +82,7 @@ impl<P: Polled> CellInit<P> {
         requires taken { self.old ≡ stage.Finished }
         requires counted { IsCounted (Has token) cell.old.permit }
         requires one { token.count ≡ 1 }
+        ensures never_closed { IsErrOf result PollError.Closed → ⊥ }
         ensures holds { HoldsCell tt published P.moves waker.0 token init cell.old result self.new cell.new }
         ensures counted { KeepsCounted (Has token) (claim_of self.new) cell.old.permit cell.new.permit }
         ensures whole { IsWhole 1 cell.new.permit }

@@ -50,6 +50,8 @@ impl<T> CellInsert<T> {
         requires { IsCounted (claim_of self.old) cell.old.permit }
         ensures polls { PollsInsert waker.0 self.old cell.old result self.new cell.new }
         ensures finished { IsErrOf result PollError.Finished ↔ (self.old ≡ stage.Finished) }
+        // Its permit is never closed.
+        ensures never_closed { IsErrOf result PollError.Closed → ⊥ }
         ensures counted { KeepsCounted (claim_of self.old) (claim_of self.new) cell.old.permit cell.new.permit }
         ensures one { IsForOne self.old }
         ensures whole { IsWhole 1 cell.new.permit }
@@ -94,6 +96,7 @@ fn go_on<T, L: Ledger>(
 ) -> Result<Poll<Result<(), T>>, PollError>
     requires counted { IsCounted (Has token) cell.old.permit }
     requires one { token.count ≡ 1 }
+    ensures never_closed { IsErrOf result PollError.Closed → ⊥ }
     ensures holds { HoldsInsert token value cell.old result stage.Finished cell.new }
     ensures counted { KeepsCounted (Has token) Nothing cell.old.permit cell.new.permit }
     ensures whole { IsWhole 1 cell.new.permit }

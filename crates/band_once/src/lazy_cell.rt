@@ -166,6 +166,7 @@ impl<T, P: Polled<Output = T>, F: FnOnce() -> P> LazyCell<T, P, F> {
     fn attempt(&mut self, waker: Waker) -> Result<Poll<()>, PollError>
         requires callable { MayStart F.pre self.old.attempt }
         requires none { self.old.value ≡ None }
+        ensures never_closed { IsErrOf result PollError.Closed → ⊥ }
         ensures attempts { Attempts F.post P.moves waker.0 self.old result self.new }
         ensures callable { MayStart F.pre self.new.attempt }
     {
@@ -200,6 +201,8 @@ impl Force {
         requires callable { MayStart F.pre cell.old.attempt }
         ensures polls { PollsLazy F.post P.moves waker.0 self.old cell.old result self.new cell.new }
         ensures finished { IsErrOf result PollError.Finished ↔ (self.old ≡ stage.Finished) }
+        // Its permit is never closed.
+        ensures never_closed { IsErrOf result PollError.Closed → ⊥ }
         ensures counted { KeepsCounted (claim_of self.old) (claim_of self.new) cell.old.permit cell.new.permit }
         ensures callable { MayStart F.pre cell.new.attempt }
         ensures one { IsForOne self.old }
@@ -226,6 +229,7 @@ impl Force {
         requires taken { self.old ≡ stage.Finished }
         requires counted { IsCounted (Has token) cell.old.permit }
         requires one { token.count ≡ 1 }
+        ensures never_closed { IsErrOf result PollError.Closed → ⊥ }
         ensures holds { HoldsLazy F.post P.moves waker.0 token tt cell.old result self.new cell.new }
         ensures counted { KeepsCounted (Has token) (claim_of self.new) cell.old.permit cell.new.permit }
         ensures callable { MayStart F.pre cell.new.attempt }

@@ -136,6 +136,8 @@ impl<P: Polled<Output = ()>> OnceCall<P> {
         requires { IsCounted (claim_of self.old) once.old.permit }
         ensures polls { PollsOnce P.moves waker.0 self.old once.old result self.new once.new }
         ensures finished { IsErrOf result PollError.Finished ↔ (self.old ≡ stage.Finished) }
+        // Its permit is never closed.
+        ensures never_closed { IsErrOf result PollError.Closed → ⊥ }
         ensures counted { KeepsCounted (claim_of self.old) (claim_of self.new) once.old.permit once.new.permit }
         ensures one { IsForOne self.old }
         ensures whole { IsWhole 1 once.new.permit }
@@ -164,6 +166,7 @@ impl<P: Polled<Output = ()>> OnceCall<P> {
         requires taken { self.old ≡ stage.Finished }
         requires counted { IsCounted (Has token) once.old.permit }
         requires one { token.count ≡ 1 }
+        ensures never_closed { IsErrOf result PollError.Closed → ⊥ }
         ensures holds { HoldsOnce P.moves waker.0 token init once.old result self.new once.new }
         ensures counted { KeepsCounted (Has token) (claim_of self.new) once.old.permit once.new.permit }
         ensures whole { IsWhole 1 once.new.permit }
