@@ -1,0 +1,3 @@
+mod Claims
+mod Idle
+mod Lazy
