@@ -20,7 +20,8 @@ polled (Ok Pending) request = Awaits request
 polled (Err error) request = Nothing
 
 -- one that was served has its permits, which are held
-served : (request request' : Request) (waker : ℕ) (old new : SemaphoreState) (token : Permit) → Polls request waker old (Ok (Ready token)) request' new → (token ≡ permit_for request) × (new.held ≡ old.held + request.size)
+served : (request request' : Request) (waker : ℕ) (old new : SemaphoreState) (token : Permit)
+    → Polls request waker old (Ok (Ready token)) request' new → (token ≡ permit_for request) × (new.held ≡ old.held + request.size)
 served request request' waker old new token polls = at request.stage polls
   where
     at : (stage : Stage) → PollsAt stage request waker old (Ok (Ready token)) request' new → (token ≡ permit_for request) × (new.held ≡ old.held + request.size)
@@ -113,7 +114,8 @@ pub KeepsCounted-same : (claim : Claim) (state : SemaphoreState) → IsCounted c
 KeepsCounted-same claim state counted = record { own = counted; others = λ other apart theirs. (theirs, apart) }
 
 -- a request that was not polled has no slot
-pub KeepsCounted-new : (request : Request) (claim : Claim) (old new : SemaphoreState) → request.stage ≡ stages.NotPolled → KeepsCounted (Awaits request) claim old new → KeepsCounted Nothing claim old new
+pub KeepsCounted-new : (request : Request) (claim : Claim) (old new : SemaphoreState)
+    → request.stage ≡ stages.NotPolled → KeepsCounted (Awaits request) claim old new → KeepsCounted Nothing claim old new
 KeepsCounted-new request claim old new fresh kept = record { own = kept.own; others = λ other none theirs. kept.others other (apart other) theirs }
   where
     apart : (other : Claim) → AreApart (Awaits request) other

@@ -21,7 +21,8 @@ pub(crate) trait Cell {
 
     /// Takes the oldest waker.
     fn wakes(&mut self) -> Option<u64>
-        ensures counted { (claim : Claim) → IsCounted claim (permit self.old) → IsCounted claim (permit self.new) }
+        ensures counted { (claim : Claim) → IsCounted claim (permit self.old)
+            → IsCounted claim (permit self.new) }
         ensures may { may self.old → may self.new };
 }
 

@@ -7,5 +7,7 @@ use Rattle.band_uses.proofs.cells.setting_now.Goals as goal
 pub returns-clause-others : goal.returns-clause-others
 returns-clause-others g c =
     KeepsCounted-then Nothing (claim_of c.poll.new.self) Nothing _ c.poll.new.cell.permit _
-    (subst (λ (call : CallStage g.row.P.Denot). KeepsCounted (claim_of call) (claim_of c.poll.new.self) c.args.cell.now.permit c.poll.new.cell.permit) c.get_or_init-call.ensures c.poll.ensures.counted)
+    (subst
+    (λ (call : CallStage g.row.P.Denot). KeepsCounted (claim_of call) (claim_of c.poll.new.self) c.args.cell.now.permit c.poll.new.cell.permit)
+    c.get_or_init-call.ensures c.poll.ensures.counted)
     c.cancel.ensures.counted
