@@ -1,15 +1,16 @@
 -- What a call has of the permit stays counted, over its own steps and those of others.
-use Rattle.std.proofs.Common.{◌≡◌, ℕ, ◌+◌, ◌≤◌, sym, ap, ◌∙◌, subst, arith, length, Result, Ok, Err}
+use Rattle.std.proofs.Common.{◌≡◌, ℕ, ◌+◌, ◌≤◌, sym, ap, ◌∙◌, subst, arith, length, Option, Result, Ok, Err}
 use Rattle.band_base.specs.declared.poll.Poll.{Poll}
 use Rattle.band_base.specs.declared.poll.Poll.TheVariants.{Ready, Pending}
 use Rattle.band_base.specs.declared.poll.PollError.{PollError}
+use Rattle.band_base.specs.declared.waker.Waker.{Waker}
 use Rattle.band_sem.specs.Permit.{Permit}
 use Rattle.band_sem.specs.Request.{Request, Stage}
 use Rattle.band_sem.specs.Request as stages
-use Rattle.band_sem.specs.Semaphore.{SemaphoreState, IsLike, IsLawful, SlotsDiffer, Polls, PollsAt, cancelled, given_back, permit_for}
+use Rattle.band_sem.specs.Semaphore.{SemaphoreState, IsLike, IsLawful, SlotsDiffer, TakesWake, Polls, PollsAt, cancelled, given_back, permit_for}
 use Rattle.band_sem.specs.Whole.{IsWhole}
-use Rattle.band_sem.proofs.Held.{KeepsHeld, KeepsHeld-polls, KeepsHeld-cancels}
-use Rattle.band_sem.proofs.Own.{IsOwn-polls, IsOwn-polled, IsOwn-cancels, IsOwn-given_back, SlotsDiffer-back}
+use Rattle.band_sem.proofs.Held.{KeepsHeld, KeepsHeld-wakes, KeepsHeld-polls, KeepsHeld-cancels}
+use Rattle.band_sem.proofs.Own.{IsOwn-polls, IsOwn-polled, IsOwn-cancels, IsOwn-given_back, IsOwn-wakes, SlotsDiffer-back}
 use Rattle.band_once.specs.Claims.{Claim, Nothing, Awaits, Has, IsCounted, AreApart, KeepsCounted}
 
 -- what polling a request leaves it as
@@ -19,7 +20,8 @@ polled (Ok Pending) request = Awaits request
 polled (Err error) request = Nothing
 
 -- one that was served has its permits, which are held
-served : (request request' : Request) (waker : ℕ) (old new : SemaphoreState) (token : Permit) → Polls request waker old (Ok (Ready token)) request' new → (token ≡ permit_for request) × (new.held ≡ old.held + request.size)
+served : (request request' : Request) (waker : ℕ) (old new : SemaphoreState) (token : Permit)
+    → Polls request waker old (Ok (Ready token)) request' new → (token ≡ permit_for request) × (new.held ≡ old.held + request.size)
 served request request' waker old new token polls = at request.stage polls
   where
     at : (stage : Stage) → PollsAt stage request waker old (Ok (Ready token)) request' new → (token ≡ permit_for request) × (new.held ≡ old.held + request.size)
@@ -112,10 +114,30 @@ pub KeepsCounted-same : (claim : Claim) (state : SemaphoreState) → IsCounted c
 KeepsCounted-same claim state counted = record { own = counted; others = λ other apart theirs. (theirs, apart) }
 
 -- a request that was not polled has no slot
-pub KeepsCounted-new : (request : Request) (claim : Claim) (old new : SemaphoreState) → request.stage ≡ stages.NotPolled → KeepsCounted (Awaits request) claim old new → KeepsCounted Nothing claim old new
+pub KeepsCounted-new : (request : Request) (claim : Claim) (old new : SemaphoreState)
+    → request.stage ≡ stages.NotPolled → KeepsCounted (Awaits request) claim old new → KeepsCounted Nothing claim old new
 KeepsCounted-new request claim old new fresh kept = record { own = kept.own; others = λ other none theirs. kept.others other (apart other) theirs }
   where
     apart : (other : Claim) → AreApart (Awaits request) other
     apart Nothing = tt
     apart (Awaits other) = subst (λ (stage : Stage). SlotsDiffer stage other.stage) (sym fresh) tt
     apart (Has token) = tt
+
+pub AreApart-back : (mine other : Claim) → AreApart mine other → AreApart other mine
+AreApart-back Nothing Nothing apart = tt
+AreApart-back Nothing (Awaits other) apart = tt
+AreApart-back Nothing (Has token) apart = tt
+AreApart-back (Awaits mine) Nothing apart = tt
+AreApart-back (Awaits mine) (Awaits other) apart = SlotsDiffer-back mine.stage other.stage apart
+AreApart-back (Awaits mine) (Has token) apart = tt
+AreApart-back (Has mine) Nothing apart = tt
+AreApart-back (Has mine) (Awaits other) apart = tt
+AreApart-back (Has mine) (Has token) apart = apart
+
+-- a waker is taken
+pub IsCounted-wakes : (claim : Claim) (old new : SemaphoreState) (result : Option Waker) → TakesWake old result new → IsCounted claim old → IsCounted claim new
+IsCounted-wakes Nothing old new result takes counted = tt
+IsCounted-wakes (Awaits request) old new result takes counted =
+    (counted.0 ∙ sym (KeepsHeld-wakes old new result takes).number, IsOwn-wakes request old new counted.1 result takes)
+IsCounted-wakes (Has token) old new result takes counted =
+    let kept = KeepsHeld-wakes old new result takes in (counted.0 ∙ sym kept.number, omega (arith, kept.held, counted.1))

@@ -1,3 +1,3 @@
-mod Claims
+pub mod Claims
 mod Idle
 mod Lazy

@@ -3,6 +3,8 @@
 
 mod attempt;
 mod call;
+#[cfg(test)]
+mod callers;
 mod cell_init;
 mod cell_insert;
 mod cell_mut;
@@ -10,6 +12,10 @@ mod cell_try_init;
 mod lazy_cell;
 mod once;
 mod once_cell;
+#[cfg(test)]
+mod plan;
+#[cfg(test)]
+mod tests;
 mod value_cell;
 
 pub use cell_init::CellInit;

@@ -1,6 +1,7 @@
 //! The callers that the documents show, each proved from the public contracts alone.
 #![tactic(auto)]
 
+pub mod cells;
 pub mod channels;
 pub mod conditions;
 pub mod counter;

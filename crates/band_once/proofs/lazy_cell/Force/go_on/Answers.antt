@@ -1,4 +1,4 @@
-use Rattle.std.proofs.Common.{refl, rules}
+use Rattle.std.proofs.Common.{rules}
 use Rattle.band_once.proofs.Lazy.{HoldsLazy-made}
 use Rattle.band_once.proofs.lazy_cell.Force.go_on.Goals as goal
 

@@ -1,0 +1,13 @@
+use Rattle.std.proofs.Common.{subst}
+use Rattle.band_once.specs.declared.call.CallStage.{CallStage}
+use Rattle.band_once.specs.Claims.{Nothing, KeepsCounted, claim_of}
+use Rattle.band_once.proofs.Claims.{KeepsCounted-then}
+use Rattle.band_uses.proofs.cells.setting_now.Goals as goal
+
+pub returns-clause-others : goal.returns-clause-others
+returns-clause-others g c =
+    KeepsCounted-then Nothing (claim_of c.poll.new.self) Nothing _ c.poll.new.cell.permit _
+    (subst
+    (λ (call : CallStage g.row.P.Denot). KeepsCounted (claim_of call) (claim_of c.poll.new.self) c.args.cell.now.permit c.poll.new.cell.permit)
+    c.get_or_init-call.ensures c.poll.ensures.counted)
+    c.cancel.ensures.counted
