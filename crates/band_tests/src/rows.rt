@@ -81,7 +81,10 @@ fn plays_on_closing(rt: HostRuntime) -> Result<(), Fail> {
             "sem s 1\nask a s 3 1\nreduce s 2\nclose s\nrelease s 2\nstatus s\n",
             "ok\npending\nok\nok\nwake 1\nok\navailable 1 free 1 waiting 0 granted 0 held 0\n",
         ),
-        ("mutex m\nclose m\nclose x\n", "ok\nrefused kind\nrefused unknown\n"),
+        (
+            "mutex m\nclose m\nclose x\n",
+            "ok\nrefused kind\nrefused unknown\n",
+        ),
     ];
     for (script, written) in table {
         compare(&rt, rt.alloc(), script, written)?;
