@@ -6,7 +6,7 @@ use Rattle.std.specs.Option.{option_map, option_map_or}
 use Rattle.std.proofs.lemmas.List.{map-set, map_push, length-map, get_or-set_same, get_or-set_other, get_or_past, set-get_or}
 use Rattle.std.proofs.lemmas.List.Sums.{sum_by-set, sum_by_push}
 use Rattle.band_line.specs.Arena.{ArenaState, IsRewritten, arena_map, value_at, occupied_len, next_slot, filled, inserted, with_value, removed}
-use Rattle.band_line.specs.Line.{changed_at}
+use Rattle.band_line.specs.Store.{changed_at}
 use Rattle.band_line.proofs.ArenaLemmas.{length-values-set, push_other}
 
 module _ {A : Type 0} (arena : ArenaState A) where

@@ -3,5 +3,6 @@ mod ArenaMaps
 mod Chains
 mod LineLemmas
 mod Linking
+mod NodeValues
 mod SoundArena
 pub mod WaitListLemmas

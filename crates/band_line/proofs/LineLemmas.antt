@@ -7,12 +7,13 @@ use Rattle.band_line.specs.Arena.{KeepsOthers, KeepsValues, ArenaState, arena_ma
 use Rattle.band_line.specs.WaitList.{WaitListState, IsWaitList, is_linked, first_waiter, waiter_at, pushed_front, pushed_back, detached, with_waiter, removed_waiter}
 use Rattle.band_line.specs.Links.{with_prev, with_next}
 use Rattle.band_line.specs.Slots.{chain}
-use Rattle.band_line.specs.Line.{first_or, IsDoublyLinked, changed_at, links_in, links_at, linked_len, linked_of, list_of, IsWaitLine}
-use Rattle.band_line.specs.Line.{with_node_value, with_node_prev, with_node_next, asked, pointed_next, pointed_prev, closed, closed_front, closed_back, gap_visits}
+use Rattle.band_line.specs.Store.{changed_at, with_node_value, node_value, node_values}
+use Rattle.band_line.specs.Line.{Node, first_or, IsDoublyLinked, links_in, links_at, linked_len, linked_of, list_of, IsWaitLine}
+use Rattle.band_line.specs.Line.{with_node_prev, with_node_next, asked, pointed_next, pointed_prev, closed, closed_front, closed_back, gap_visits}
 use Rattle.band_line.specs.declared.link.Between.{Between}
-use Rattle.band_line.specs.declared.nodes.Node.{Node}
 use Rattle.band_line.proofs.ArenaLemmas.{differs}
 use Rattle.band_line.proofs.Chains.{chain-IsChain}
+use Rattle.band_line.proofs.NodeValues.{value_is, len_is, shows_value, held, node_values-changed_at, others_shown}
 use Rattle.band_line.proofs.Linking.{PointsNext, PointsPrev, Relinks, HasNeighbors, neighbors, front_linked, without, without-IsOff, IsOff-is_in}
 use Rattle.band_line.proofs.Linking.{IsDoublyLinked-same, AreApart-IsDistinct, joins_back, joins_front, leaves, IsChain-AreLinked}
 use Rattle.band_line.proofs.ArenaMaps.{value_at-with_value, value_at-inserted_other, value_at-changed_at, value_at-changed_at_other, count-with_value, count-removed, count-inserted}
@@ -32,9 +33,6 @@ gap_visits-le (Some gap) = by_ends gap.prev gap.next
 module _ {T : Type 0} where
   abbrev has_links : Option (Node T) → Bool
   has_links slot = is_some (links_in slot)
-
-  abbrev pub node_values : ArenaState (Node T) → ArenaState T
-  node_values = arena_map (λ node. node.value)
 
   list_is : {values others : ArenaState T} {ids slots : List ℕ} → values ≡ others → ids ≡ slots
       → (let list : WaitListState T = record { nodes = values; linked = ids } in list) ≡ record { nodes = others; linked = slots }
@@ -134,9 +132,6 @@ module _ {T : Type 0} where
     pub keeps : KeepsValues old new
     pub len : occupied_len new ≡ occupied_len old + 1
 
-  pub value_is : (nodes : ArenaState (Node T)) (id : ℕ) → value_at id (node_values nodes) ≡ option_map (λ node. node.value) (value_at id nodes)
-  value_is nodes id = value_at-arena_map (λ (n : Node T). n.value) nodes id
-
   module _ {nodes made : ArenaState (Node T)} {links : Option Between} {value : T} {id : ℕ} (h : Inserts nodes made links value id) where
     elsewhere : (other : ℕ) → other ≢ id → value_at other made ≡ value_at other nodes
     elsewhere other apart = ap (value_at other) h.state ∙ value_at-inserted_other nodes (record { links = links; value = value }) other (λ e. apart (e ∙ sym h.slot))
@@ -155,7 +150,7 @@ module _ {T : Type 0} where
     inserts_value = ap node_values h.state ∙ arena_map-inserted (λ (n : Node T). n.value) nodes (record { links = links; value = value })
 
     apart : KeepsOthers id (node_values nodes) (node_values made)
-    apart other differs = value_is made other ∙ ap (option_map (λ (n : Node T). n.value)) (elsewhere other differs) ∙ sym (value_is nodes other)
+    apart = others_shown nodes made elsewhere
 
     gains : Gains (node_values nodes) (node_values made) id value
     gains = record {
@@ -164,7 +159,7 @@ module _ {T : Type 0} where
       keeps = λ other here.
           let vacant : value_at id (node_values nodes) ≡ None = value_is nodes id ∙ ap (option_map (λ (n : Node T). n.value)) h.vacant in
           apart other (differs (node_values nodes).slots id other vacant here);
-      len = occupied_len-arena_map (λ (n : Node T). n.value) made ∙ h.len ∙ ap (λ n. n + 1) (sym (occupied_len-arena_map (λ (n : Node T). n.value) nodes));
+      len = len_is made ∙ h.len ∙ ap (λ n. n + 1) (sym (len_is nodes));
     }
 
     pub gains_back : (back : Option ℕ) → Gains (node_values nodes) (node_values (pointed_next back (Some id) made)) id value
@@ -216,15 +211,6 @@ module _ {T : Type 0} where
         line = whole.0;
         shows = list_is (node_values-pointed_prev made front (Some id) ∙ inserts_value h) (whole.1 ∙ ap (λ new. new ∷ ids) slot);
       }
-
-  -- a value that is written into a node is the one that the list shows
-  node_values-changed_at : (nodes : ArenaState (Node T)) (id : ℕ) (change : Node T → Node T) (value : T) → IsSome (value_at id nodes)
-      → ((node : Node T) → (change node).value ≡ value) → node_values (changed_at id change nodes) ≡ with_value id value (node_values nodes)
-  node_values-changed_at nodes id change value here written = at (value_at id nodes) here
-    where
-      at : (found : Option (Node T)) → IsSome found → node_values (option_map_or (λ node. with_value id (change node) nodes) found nodes) ≡ with_value id value (node_values nodes)
-      at None h = absurd (cc)
-      at (Some node) h = arena_map-with_value (λ (n : Node T). n.value) nodes id (change node) ∙ ap (λ v. with_value id v (node_values nodes)) (written node)
 
   -- a change that keeps the links of a node
   keeps_links : (nodes : ArenaState (Node T)) (id : ℕ) (change : Node T → Node T) → ((node : Node T) → (change node).links ≡ node.links)
@@ -335,16 +321,9 @@ module _ {T : Type 0} where
   -- what holds of what a line shows
   pub sound_list : {nodes : ArenaState (Node T)} {front back : Option ℕ} → IsWaitLine nodes front back → IsWaitList (list_of nodes front)
   sound_list {nodes} {front} line = record {
-    here = λ id linked. shown id (waits nodes (value_at id nodes) (line.line.all id ∙ linked));
+    here = λ id linked. shows_value nodes id (waits nodes (value_at id nodes) (line.line.all id ∙ linked));
     once = AreApart-IsDistinct (linked_of nodes front) line.line.apart;
   }
-    where
-      shown : (id : ℕ) → IsSome (value_at id nodes) → IsSome (value_at id (node_values nodes))
-      shown id here = ap is_some (value_is nodes id) ∙ mapped (value_at id nodes) here
-        where
-          mapped : (slot : Option (Node T)) → IsSome slot → IsSome (option_map (λ (n : Node T). n.value) slot)
-          mapped None h = absurd (cc)
-          mapped (Some node) h = refl
 
   -- who is not in the line has no links
   pub no_links : {nodes : ArenaState (Node T)} {front back : Option ℕ} (id : ℕ) → IsWaitLine nodes front back → is_linked id (list_of nodes front) ≡ false → links_at nodes id ≡ None
@@ -354,14 +333,6 @@ module _ {T : Type 0} where
       at None e = refl
       at (Some between) e = absurd (cc)
 
-  -- a value that the list shows is in a node
-  pub held : (nodes : ArenaState (Node T)) (id : ℕ) → IsSome (value_at id (node_values nodes)) → IsSome (value_at id nodes)
-  held nodes id here = at (value_at id nodes) (ap is_some (sym (value_is nodes id)) ∙ here)
-    where
-      at : (slot : Option (Node T)) → IsSome (option_map (λ (n : Node T). n.value) slot) → IsSome slot
-      at None h = absurd (cc)
-      at (Some node) h = refl
-
   -- a value was taken out of a slot
   pub record Loses (old new : ArenaState T) (id : ℕ) : Type 0 where
     pub others : KeepsOthers id old new
@@ -370,8 +341,8 @@ module _ {T : Type 0} where
   pub loses : (nodes : ArenaState (Node T)) (id : ℕ) → KeepsOthers id nodes (removed id nodes)
       → occupied_len (removed id nodes) + 1 ≡ occupied_len nodes → Loses (node_values nodes) (node_values (removed id nodes)) id
   loses nodes id others len = record {
-    others = λ other differs. value_is (removed id nodes) other ∙ ap (option_map (λ (n : Node T). n.value)) (others other differs) ∙ sym (value_is nodes other);
-    len = ap (λ n. n + 1) (occupied_len-arena_map (λ (n : Node T). n.value) (removed id nodes)) ∙ len ∙ sym (occupied_len-arena_map (λ (n : Node T). n.value) nodes);
+    others = others_shown nodes (removed id nodes) others;
+    len = ap (λ n. n + 1) (len_is (removed id nodes)) ∙ len ∙ sym (len_is nodes);
   }
 
   -- those beside a node are linked still when it is asked
@@ -398,7 +369,7 @@ module _ {T : Type 0} where
       → Detaches (closed gap (changed_at id (asked true left) nodes)) (closed_front gap front) (closed_back gap back) id left (detached id (list_of nodes front))
   detaches {nodes} {front} {back} id left gap line here e =
       let made = unlinks id left gap line here e in
-      let shown_here : IsSome (value_at id (node_values nodes)) = ap is_some (value_is nodes id) ∙ mapped (value_at id nodes) here in
+      let shown_here : IsSome (value_at id (node_values nodes)) = shows_value nodes id here in
       let holds : value_at id (node_values (closed gap (changed_at id (asked true left) nodes))) ≡ Some left =
       ap (waiter_at id) made.shows ∙ value_at-with_value (node_values nodes) id left shown_here in
       let there = held (closed gap (changed_at id (asked true left) nodes)) id (ap is_some holds) in
@@ -414,10 +385,6 @@ module _ {T : Type 0} where
             };
       }
     where
-      mapped : (slot : Option (Node T)) → IsSome slot → IsSome (option_map (λ (n : Node T). n.value) slot)
-      mapped None h = absurd (cc)
-      mapped (Some node) h = refl
-
       nodes_slots : List (Option T)
       nodes_slots = (node_values nodes).slots
 

@@ -8,8 +8,8 @@ use Rattle.std.proofs.lemmas.List.{length-map, get_or-map, get_or-set_other, get
 use Rattle.std.proofs.lemmas.List.Sums.{sum_by-set, sum_by-cons}
 use Rattle.band_line.specs.Arena.{ArenaState, IsSoundArena, empty_arena, with_room, with_value, arena_map, value_at, slot_limit}
 use Rattle.band_line.specs.Line.{AreApart}
-use Rattle.band_line.specs.Slots.{IsChain, value_of, next_at, vacated_of, state_of, IsArena}
-use Rattle.band_line.specs.declared.arena.Slot.{Slot}
+use Rattle.band_line.specs.Slots.{IsChain, node_of, next_at, vacated_of, state_of, IsStore}
+use Rattle.band_line.specs.declared.store.Slot.{Slot}
 use Rattle.band_line.proofs.ArenaLemmas.{occupied_within, vacant_within, vacant_at, differs}
 use Rattle.band_line.proofs.ArenaMaps.{value_at-arena_map, value_at-with_value, value_at-with_value_other, occupied_len-arena_map, occupied_len-with_value}
 use Rattle.band_line.proofs.Chains.{first_is_off}
@@ -66,24 +66,25 @@ module _ {T : Type 0} where
           let more = as_many_marks (map is_vacant slots) (id ∷ ids) (IsOff-is_in id ids e, apart) (is_marked slots id within none, marked) in
           absurd (omega (arith, more, vacant_or_not slots, all))
 
-  chain_marked : (slots : List (Slot T)) (first : Option ℕ) (ids : List ℕ) → IsChain (next_at slots) first ids
-      → AllByRecursion (λ id. get_or (map is_vacant (map value_of slots)) id false ≡ true) ids
+module _ {K T : Type 0} where
+  chain_marked : (slots : List (Slot K T)) (first : Option ℕ) (ids : List ℕ) → IsChain (next_at slots) first ids
+      → AllByRecursion (λ id. get_or (map is_vacant (map node_of slots)) id false ≡ true) ids
   chain_marked slots first [] h = tt
   chain_marked slots first (id ∷ rest) h =
       let within = vacant_within slots id h.1 in
-      (is_marked (map value_of slots) id (omega (arith, length-map slots value_of)) (vacant_at slots id h.1), chain_marked slots (unwrap_or (next_at slots id) None) rest h.2)
+      (is_marked (map node_of slots) id (omega (arith, length-map slots node_of)) (vacant_at slots id h.1), chain_marked slots (unwrap_or (next_at slots id) None) rest h.2)
 
-pub sound_arena : {T : Type 0} {slots : List (Slot T)} {capacity len : ℕ} {first : Option ℕ} → length slots ≤ capacity
-    → IsArena slots capacity len first → IsSoundArena (state_of slots capacity len first)
-sound_arena {T} {slots} {capacity} {len} {first} fits sound =
-    let many = length-map slots value_of in
+pub sound_arena : {K T : Type 0} {slots : List (Slot K T)} {capacity len : ℕ} {first : Option ℕ} → length slots ≤ capacity
+    → IsStore slots capacity len first → IsSoundArena (state_of slots capacity len first)
+sound_arena {K} {T} {slots} {capacity} {len} {first} fits sound =
+    let many = length-map slots node_of in
     let ids = vacated_of slots len first in
     let apart = AreApart-IsChain (next_at slots) first ids sound.chained in
     record {
       here = λ id here. omega (arith, many, occupied_within slots id here);
       within = λ id among. omega (arith, many, vacant_within slots id (chain_tells (next_at slots) first ids id sound.chained among));
       vacant = λ id among. vacant_at slots id (chain_tells (next_at slots) first ids id sound.chained among);
-      only = all_vacated (map value_of slots) ids apart (chain_marked slots first ids sound.chained) (omega (arith, many, sound.counted, sound.all));
+      only = all_vacated (map node_of slots) ids apart (chain_marked slots first ids sound.chained) (omega (arith, many, sound.counted, sound.all));
       once = AreApart-IsDistinct ids apart;
       all = omega (arith, many, sound.counted, sound.all);
       room = omega (arith, many, sound.counted, sound.all);

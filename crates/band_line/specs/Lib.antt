@@ -6,6 +6,8 @@ pub mod Link
 pub mod Links
 pub mod NodeLends
 pub mod Slots
+pub mod Store
+pub mod StoreLends
 pub mod Visits
 pub mod WaitList
 pub mod WaitListLends

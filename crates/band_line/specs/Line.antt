@@ -1,15 +1,20 @@
 -- How the nodes of a line are linked. No public clause cites this page.
 use Rattle.std.specs.Prelude.{◌≡◌, ◌≢◌, ℕ, ◌+◌, ◌<◌, List, [], ◌∷◌, length, count_by, Bool, ◌==◌, if◌then◌else◌, Option, Some, None, is_some}
 use Rattle.std.specs.List.{list_any, AllByRecursion}
-use Rattle.std.specs.Option.{option_map, option_map_or, option_and_then}
-use Rattle.band_line.specs.Arena.{ArenaState, arena_map, occupied_len, value_at, with_value}
+use Rattle.std.specs.Option.{option_map, option_and_then}
+use Rattle.band_line.specs.Arena.{ArenaState, arena_map, occupied_len, value_at}
 use Rattle.band_line.specs.Slots.{chain}
 use Rattle.std.specs.Global.{Global}
 use Rattle.std.specs.declared.boxed.Box.{Box}
 use Rattle.band_line.specs.WaitList.{WaitListState, empty_list}
 use Rattle.band_line.specs.Links.{with_prev, with_next}
 use Rattle.band_line.specs.declared.link.Between.{Between}
-use Rattle.band_line.specs.declared.nodes.Node.{Node}
+use Rattle.band_line.specs.Store.{changed_at}
+use Rattle.band_line.specs.declared.store.Node.{Node as StoreNode}
+
+-- a value, and the slots that it stands between, if it is linked
+abbrev pub Node : Type 0 → Type 0
+Node T = StoreNode (Option Between) T
 
 -- the first of these, or else what comes after them
 abbrev pub first_or : Option ℕ → List ℕ → Option ℕ
@@ -40,11 +45,6 @@ pub record IsDoublyLinked (links : ℕ → Option Between) (ids : List ℕ) (fro
   pub front_is : front ≡ first_or None ids
   pub back_is : back ≡ last_or None ids
   pub all : (id : ℕ) → is_some (links id) ≡ list_any (λ other. other == id) ids
-
--- the value in a slot, if there is one, is changed
-abbrev pub changed_at : {A : Type 0} → ℕ → (A → A) → ArenaState A → ArenaState A
-changed_at id change arena =
-    option_map_or (λ value. with_value id (change value) arena) (value_at id arena) arena
 
 module _ {T : Type 0} where
   -- the slots that the node in a slot stands between, if it is linked
@@ -86,13 +86,6 @@ module _ {T : Type 0} where
   pub record IsWaitLine (nodes : ArenaState (Node T)) (front back : Option ℕ) : Type 0 where
     pub line : IsDoublyLinked (links_at nodes) (linked_of nodes front) front back
     pub counted : length (linked_of nodes front) ≡ linked_len nodes
-
-  -- the value of a node, if there is one
-  abbrev pub node_value : Option (Node T) → Option T
-  node_value slot = option_map (λ node. node.value) slot
-
-  abbrev pub with_node_value : T → Node T → Node T
-  with_node_value value node = record node { value = value }
 
   abbrev pub with_node_prev : Option ℕ → Node T → Node T
   with_node_prev prev node = record node { links = option_map (with_prev prev) node.links }

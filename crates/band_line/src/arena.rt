@@ -1,11 +1,10 @@
 //! The arena: values in slots whose numbers stay theirs.
-ghost use Rattle.std.specs.Prelude.{◌≡◌, ◌≢◌, ℕ, ◌+◌, ◌-◌, ◌*◌, ◌<◌, ◌≤◌, ◌↔◌, [], Some, None, length, option_copied, IsTrue, IsSome, is_some, IsOk, IsErr, OnOk, OnErr, IfOk, min, max};
+ghost use Rattle.std.specs.Prelude.{◌≡◌, ◌≢◌, ℕ, ◌+◌, ◌*◌, ◌<◌, ◌≤◌, ◌↔◌, Some, None, option_copied, IsTrue, IsSome, is_some, IsOk, IsErr, OnOk, OnErr, IfOk, min, max};
 ghost use Rattle.std.specs.Option.{option_copied_mut};
-ghost use Rattle.std.specs.Borrow.{sem, Lends};
+ghost use Rattle.std.specs.Borrow.{sem};
 ghost use Rattle.band_line.specs.Arena.{IsSoundArena, IsRewritten, with_value, empty_arena, value_at, KeepsValues, KeepsOthers, values, occupied_len, next_slot, inserted, removed, with_room, slot_limit};
-ghost use Rattle.band_line.specs.Slots.{value_of};
 
-use crate::link::Link;
+use crate::store::{Node, Slot, Store};
 use crate::{ArenaIter, SlotId};
 use band_base::Steps;
 use std::alloc::{AllocError, Global};
@@ -17,50 +16,23 @@ use std::sync::ledger::Ledger;
 /// first. Ports `Arena`.
 #[derive(Drop)]
 pub struct Arena<T> {
-    slots: Vec<Slot<T>>,
-    /// The slot that was vacated last.
-    vacant: Link,
-    len: u32,
-}
-
-#[derive(Drop)]
-pub(crate) enum Slot<T> {
-    /// With the slot that was vacated before it, if that is vacant still.
-    Vacant(Link),
-    Occupied(T),
+    store: Store<(), T>,
 }
 
 const _: () = prove!(size_of::<Arena<u64>>() == 32);
 
-const _: () = prove!(size_of::<Slot<u64>>() == 16);
+const _: () = prove!(size_of::<Slot<(), u64>>() == 16);
+
+const _: () = prove!(size_of::<Slot<(), u128>>() == 32);
 
 impl<T> Model for Arena<T> {
-    ghost use Rattle.std.specs.Prelude.{vec_capacity};
     ghost use Rattle.band_line.specs.Arena.{ArenaState};
 
     ghost Value = { ArenaState T };
 
-    ghost use Rattle.band_line.specs.Slots.{state_of, IsArena};
+    ghost use Rattle.band_line.specs.Store.{node_values};
 
-    ghost view = { λ arena. state_of arena.slots.items (vec_capacity arena.slots) arena.len arena.vacant };
-
-    ghost invariant = { λ arena.
-        IsArena arena.slots.items (vec_capacity arena.slots) arena.len arena.vacant };
-}
-
-impl<T> Slot<T> {
-    ghost use Rattle.band_line.specs.contracts.arena.Slot.{the_row};
-
-    fn value_mut(&mut self) -> &mut T
-        requires { IsSome (value_of self.old) }
-        ensures* lends { sem 𝓛 (Lends (the_row T.row) T.row self.entry result Slot.Occupied) }
-        ensures value { value_of self.old ≡ Some result.now }
-    {
-        match self {
-            Slot::Occupied(value) => value,
-            Slot::Vacant(_) => unreachable!(),
-        }
-    }
+    ghost view = { λ arena. node_values arena.store };
 }
 
 impl<T> Arena<T> {
@@ -72,9 +44,7 @@ impl<T> Arena<T> {
         ensures sound { IsSoundArena result }
     {
         Arena {
-            slots: Vec::new(alloc),
-            vacant: Link::none(),
-            len: 0,
+            store: Store::new(alloc),
         }
     }
 
@@ -86,13 +56,8 @@ impl<T> Arena<T> {
         ensures limit { slot_limit < n → IsErr result }
         ensures sound { IfOk result IsSoundArena }
     {
-        if n > SlotId::LIMIT {
-            return Err(AllocError);
-        }
         Ok(Arena {
-            slots: Vec::with_capacity(alloc, n as usize)?,
-            vacant: Link::none(),
-            len: 0,
+            store: Store::with_capacity(alloc, n)?,
         })
     }
 
@@ -113,16 +78,7 @@ impl<T> Arena<T> {
         ensures limit { slot_limit < occupied_len self.old + n → IsErr result }
         ensures sound { IsSoundArena self.new }
     {
-        let capacity = self.slots.capacity();
-        let len = u64::from(self.len);
-        if n <= capacity as u64 - len {
-            return Ok(());
-        }
-        if n > SlotId::LIMIT - len {
-            return Err(AllocError);
-        }
-        let wanted = (len + n).max(2 * capacity as u64).min(SlotId::LIMIT);
-        self.slots.reserve_exact(wanted as usize - self.slots.len())
+        self.store.reserve(n)
     }
 
     /// How many inserts need no memory.
@@ -131,7 +87,7 @@ impl<T> Arena<T> {
         ensures limit { occupied_len self.now + result ≤ slot_limit }
         ensures sound { IsSoundArena self.now }
     {
-        self.slots.capacity() as u64 - u64::from(self.len)
+        self.store.spare()
     }
 
     /// How many values there are.
@@ -140,14 +96,14 @@ impl<T> Arena<T> {
         ensures below { result ≤ slot_limit }
         ensures sound { IsSoundArena self.now }
     {
-        u64::from(self.len)
+        self.store.len()
     }
 
     /// Whether there is no value.
     pub fn is_empty(&self) -> bool
         ensures { IsTrue result ↔ (occupied_len self.now ≡ 0) }
     {
-        self.len == 0
+        self.len() == 0
     }
 
     /// Puts a value into a slot, in room that was reserved.
@@ -163,22 +119,7 @@ impl<T> Arena<T> {
         ensures sound { IsSoundArena self.new }
         ensures visits { steps.new ≡ steps.old + 1 }
     {
-        steps.tick();
-        self.len += 1;
-        match self.vacant.get() {
-            Some(id) => {
-                match mem::replace(&mut self.slots[id.index()], Slot::Occupied(value)) {
-                    Slot::Vacant(next) => self.vacant = next,
-                    Slot::Occupied(_) => unreachable!(),
-                }
-                id
-            }
-            None => {
-                let id = SlotId::at(self.slots.len() as u32);
-                self.slots.push_reserved(Slot::Occupied(value));
-                id
-            }
-        }
+        self.store.insert(Node { links: (), value }, steps)
     }
 
     /// The value in a slot, if there is one.
@@ -186,11 +127,7 @@ impl<T> Arena<T> {
         ensures value { option_copied result ≡ value_at id self.now }
         ensures visits { steps.new ≡ steps.old + 1 }
     {
-        steps.tick();
-        match self.slots.get(id.index()) {
-            Some(Slot::Occupied(value)) => Some(value),
-            _ => None,
-        }
+        self.store.get(id, steps)
     }
 
     /// The value in a slot for writing, if there is one.
@@ -219,19 +156,19 @@ impl<T> Arena<T> {
         self.value_mut(id)
     }
 
-    #[cfg(test)]
-    pub(crate) fn has(&self, id: SlotId) -> bool
-        ensures { result ≡ is_some (value_at id self.now) }
-    {
-        matches!(self.slots.get(id.index()), Some(Slot::Occupied(_)))
-    }
-
     fn value_mut(&mut self, id: SlotId) -> &mut T
         requires { IsSome (value_at id self.old) }
         ensures* writes_back { sem 𝓛 (lends_occupied T.row self.entry id result) }
         ensures value { value_at id self.old ≡ Some result.now }
     {
-        self.slots[id.index()].value_mut()
+        self.store.value_mut(id)
+    }
+
+    #[cfg(test)]
+    pub(crate) fn has(&self, id: SlotId) -> bool
+        ensures { result ≡ is_some (value_at id self.now) }
+    {
+        self.store.has(id)
     }
 
     /// Takes the value out of a slot. The room for it stays.
@@ -245,13 +182,7 @@ impl<T> Arena<T> {
         ensures sound { IsSoundArena self.new }
         ensures visits { steps.new ≡ steps.old + 1 }
     {
-        steps.tick();
-        self.len -= 1;
-        let before = mem::replace(&mut self.vacant, Link::to(id));
-        match mem::replace(&mut self.slots[id.index()], Slot::Vacant(before)) {
-            Slot::Occupied(value) => value,
-            Slot::Vacant(_) => unreachable!(),
-        }
+        self.store.remove(id, steps).value
     }
 
     /// Takes all values out, by their slots. The arena is as new.
@@ -260,21 +191,9 @@ impl<T> Arena<T> {
         ensures state { self.new ≡ empty_arena }
         ensures sound { IsSoundArena self.new }
     {
-        let alloc = *self.slots.allocator();
-        let arena = mem::replace(self, Arena::new(alloc));
-        ArenaIter::new(arena.slots)
-    }
-
-    /// Ends an arena without slots, also where its values may not be dropped.
-    pub(crate) fn destroy_empty(self)
-        requires { self.slots ≡ [] }
-    {
-        let Arena {
-            slots,
-            vacant: _,
-            len: _,
-        } = self;
-        slots.destroy_empty();
+        let alloc = *self.store.slots.allocator();
+        let store = mem::replace(&mut self.store, Store::new(alloc));
+        ArenaIter::new(store.slots)
     }
 }
 
@@ -287,6 +206,6 @@ impl<T: Drop> IntoIterator for Arena<T> {
 
     /// The values, by their slots.
     fn into_iter(self) -> ArenaIter<T> {
-        ArenaIter::new(self.slots)
+        ArenaIter::new(self.store.slots)
     }
 }

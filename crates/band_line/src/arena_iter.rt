@@ -2,14 +2,14 @@
 ghost use Rattle.std.specs.Prelude.{◌≡◌, map};
 ghost use Rattle.std.specs.Iterator.{YieldsFirst, item_count};
 
-use crate::arena::Slot;
+use crate::store::Slot;
 use std::marker::Model;
 use std::vec;
 
 /// The values of an arena by their slots, seen as those that are left. Ports `ArenaIter`.
 #[derive(Drop)]
 pub struct ArenaIter<T> {
-    slots: vec::IntoIter<Slot<T>>,
+    slots: vec::IntoIter<Slot<(), T>>,
 }
 
 impl<T> Model for ArenaIter<T> {
@@ -26,7 +26,7 @@ impl<T> Model for ArenaIter<T> {
 impl<T> ArenaIter<T> {
     ghost use Rattle.band_line.specs.Slots.{values_of};
 
-    pub(crate) fn new(slots: Vec<Slot<T>>) -> ArenaIter<T>
+    pub(crate) fn new(slots: Vec<Slot<(), T>>) -> ArenaIter<T>
         ensures { result ≡ values_of slots.items }
     {
         ArenaIter {
@@ -44,7 +44,7 @@ impl<T: Drop> Iterator for ArenaIter<T> {
 
     fn next(&mut self) -> Option<T> {
         while let Some(slot) = self.slots.next() {
-            if let Slot::Occupied(value) = slot {
+            if let Slot::Occupied(_, value) = slot {
                 return Some(value);
             }
         }

@@ -8,6 +8,7 @@ mod link;
 mod nodes;
 mod register;
 mod slot_id;
+mod store;
 #[cfg(test)]
 mod tests;
 mod wait_list;

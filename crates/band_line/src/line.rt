@@ -7,9 +7,9 @@ ghost use Rattle.band_line.specs.Arena.{IsSoundArena, KeepsValues, KeepsOthers, 
 ghost use Rattle.band_line.specs.Visits.{Visits};
 ghost use Rattle.band_line.specs.WaitList.{Joins, IsWritten, with_waiter, empty_list, waiter_at, is_linked, first_waiter, IsWaitList, first_value, pushed_front, pushed_back, removed_waiter, with_list_room, AnswersLeaving};
 
+use crate::SlotId;
 use crate::link::{Link, Links};
-use crate::nodes::Node;
-use crate::{Arena, SlotId};
+use crate::store::{Node, Store};
 use band_base::Steps;
 use std::alloc::{AllocError, Global};
 use std::marker::Model;
@@ -18,7 +18,7 @@ use std::sync::ledger::Ledger;
 /// Nodes of which some are linked to a line.
 #[derive(Drop)]
 pub(crate) struct Line<T> {
-    nodes: Arena<Node<T>>,
+    nodes: Store<Links, T>,
     front: Link,
     back: Link,
 }
@@ -44,7 +44,7 @@ impl<T> Line<T> {
         ensures { result ≡ empty_list }
     {
         Line {
-            nodes: Arena::new(alloc),
+            nodes: Store::new(alloc),
             front: Link::none(),
             back: Link::none(),
         }

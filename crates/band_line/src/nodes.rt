@@ -5,68 +5,68 @@ ghost use Rattle.std.specs.Fn.{FnOnceTakesAtMut, FnOnceReturnsAtMut};
 ghost use Rattle.std.specs.Borrow.{sem};
 ghost use Rattle.band_line.specs.Arena.{value_at};
 ghost use Rattle.band_line.specs.WaitList.{AnswersLeaving};
-ghost use Rattle.band_line.specs.Line.{node_value, links_at, changed_at, asked, pointed_next, pointed_prev, closed, closed_front, closed_back, gap_visits};
+ghost use Rattle.band_line.specs.Slots.{node_of};
+ghost use Rattle.band_line.specs.Store.{node_value, changed_at};
+ghost use Rattle.band_line.specs.Line.{links_in, links_at, asked, pointed_next, pointed_prev, closed, closed_front, closed_back, gap_visits};
 
-use crate::arena::Slot;
+use crate::SlotId;
 use crate::link::{Link, Links};
-use crate::{Arena, SlotId};
+use crate::store::{Slot, Store};
 use band_base::{Steps, Waker};
 use std::mem;
 use std::sync::ledger::Ledger;
 
-/// A value, and the slots that it stands between in the line, if it is linked.
-#[derive(Drop)]
-pub(crate) struct Node<T> {
-    pub(crate) links: Links,
-    pub(crate) value: T,
+const _: () = prove!(size_of::<Slot<Links, u64>>() == 24);
+
+const _: () = prove!(size_of::<Slot<Links, (u64, u64, Option<Waker>)>>() == 48);
+
+/// A value that is aligned to 16 has 16 bytes beside it: 4 for the slot and 8 for the links, rounded up.
+const _: () = prove!(size_of::<Slot<Links, u128>>() == 32);
+
+/// Detaches a node with these links if `f` answers true about its value, and answers what they were.
+fn detach_if<T, F: FnOnce(&mut T) -> bool>(links: &mut Links, value: &mut T, f: F) -> Option<Links>
+    requires { FnOnceTakesAtMut F.FnOnce f value.old }
+    ensures asked { FnOnceReturnsAtMut F.FnOnce f value.old (is_some result) value.new }
+    ensures links { links.new ≡ (if is_some result then None else links.old) }
+    ensures had { IfSome result (λ had. had ≡ links.old) }
+{
+    if f(value) {
+        Some(mem::replace(links, Links::detached()))
+    } else {
+        None
+    }
 }
 
-const _: () = prove!(size_of::<Node<u64>>() == 16);
-
-const _: () = prove!(size_of::<Slot<Node<u64>>>() == 24);
-
-const _: () = prove!(size_of::<Slot<Node<(u64, u64, Option<Waker>)>>>() == 48);
-
-/// A value that is aligned to 16 has 32 bytes beside it: 8 for the links and 4 for the slot, each rounded up.
-const _: () = prove!(size_of::<Slot<Node<u128>>>() == 48);
-
-impl<T> Node<T> {
-    ghost use Rattle.band_line.specs.NodeLends.{lends_node_value};
-
-    fn value_mut(&mut self) -> &mut T
-        ensures* lends { sem 𝓛 (lends_node_value T.row self.entry result) }
-        ensures value { result.now ≡ self.old.value }
-    {
-        &mut self.value
-    }
-
-    /// Asks `f` about the value. Where it answers true, the node is detached, and the answer is what its
-    /// links were.
+impl<T> Slot<Links, T> {
+    /// Asks `f` about the value of a node. Where it answers true, the node is detached, and the answer is
+    /// what its links were.
     fn ask<F: FnOnce(&mut T) -> bool>(&mut self, f: F) -> Option<Links>
-        requires { FnOnceTakesAtMut F.FnOnce f self.old.value }
-        ensures asked { FnOnceReturnsAtMut F.FnOnce f self.old.value (is_some result) self.new.value }
-        ensures links { self.new.links ≡ (if is_some result then None else self.old.links) }
-        ensures had { IfSome result (λ links. links ≡ self.old.links) }
+        requires here { IsSome (node_of self.old) }
+        requires callable { ForSome (node_value (node_of self.old)) (FnOnceTakesAtMut F.FnOnce f) }
+        ensures asked { (left : T)
+            × AnswersLeaving F.FnOnce f (node_value (node_of self.old)) (is_some result) left
+            × (node_of self.new ≡ option_map (asked (is_some result) left) (node_of self.old)) }
+        ensures had { IfSome result (λ links. links ≡ links_in (node_of self.old)) }
     {
-        if f(&mut self.value) {
-            Some(mem::replace(&mut self.links, Links::detached()))
-        } else {
-            None
+        match self {
+            Slot::Occupied(links, value) => detach_if(links, value, f),
+            Slot::Vacant(_) => unreachable!(),
         }
     }
 }
 
-impl<T> Arena<Node<T>> {
+impl<T> Store<Links, T> {
     ghost use Rattle.band_line.specs.NodeLends.{lends_value_in};
 
     /// The value of the node in a slot that has one.
     pub(crate) fn waiter_mut<L: Ledger>(&mut self, id: SlotId, steps: &mut Steps<L>) -> &mut T
         requires { IsSome (value_at id self.old) }
         ensures* lends { sem 𝓛 (lends_value_in T.row self.entry id result) }
-        ensures value { option_map (λ node. node.value) (value_at id self.old) ≡ Some result.now }
+        ensures value { node_value (value_at id self.old) ≡ Some result.now }
         ensures visits { steps.new ≡ steps.old + 1 }
     {
-        self.occupied_mut(id, steps).value_mut()
+        steps.tick();
+        self.value_mut(id)
     }
 
     /// Asks `f` about the value of the node in a slot that has one. Where it answers true, the node is
@@ -85,7 +85,8 @@ impl<T> Arena<Node<T>> {
         ensures had { IfSome result (λ links. links ≡ links_at self.old id) }
         ensures visits { steps.new ≡ steps.old + 1 }
     {
-        self.occupied_mut(id, steps).ask(f)
+        steps.tick();
+        self.slots[id.index()].ask(f)
     }
 
     /// Who stands after `prev` is `next`. Where there is no `prev`, `next` is the front.
@@ -102,7 +103,7 @@ impl<T> Arena<Node<T>> {
         ensures visits { steps.new ≡ steps.old + (if is_some prev then 1 else 0) }
     {
         match prev.get() {
-            Some(id) => self.occupied_mut(id, steps).links.set_next(next),
+            Some(id) => self.links_mut(id, steps).set_next(next),
             None => *front = next,
         }
     }
@@ -122,7 +123,7 @@ impl<T> Arena<Node<T>> {
         ensures visits { steps.new ≡ steps.old + (if is_some next then 1 else 0) }
     {
         match next.get() {
-            Some(id) => self.occupied_mut(id, steps).links.set_prev(prev),
+            Some(id) => self.links_mut(id, steps).set_prev(prev),
             None => *back = prev,
         }
     }

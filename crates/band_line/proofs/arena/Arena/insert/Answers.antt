@@ -1,88 +1,25 @@
-use Rattle.std.proofs.Common.{◌≡◌, ℕ, ◌-◌, ◌<◌, List, length, map, get_or, arith, ap, sym, ◌∙◌, Option, Some, None, length-set}
-use Rattle.std.proofs.lemmas.List.{get_or-map, length_push}
-use Rattle.band_line.specs.Slots.{value_of, next_of, next_at, IsArena}
-use Rattle.band_line.specs.declared.arena.Slot.{Slot}
-use Rattle.band_line.specs.declared.arena.Slot.TheVariants.{Occupied}
-use Rattle.band_line.proofs.ArenaLemmas.{fills, pushes, first_vacant, first_within, all_occupied, vacant_at, differs, value-set_same}
-use Rattle.band_line.proofs.SoundArena.{sound_arena}
-use Rattle.band_line.proofs.arena.Arena.insert.Given.{Over}
+use Rattle.std.proofs.Common.{ap, sym, ◌∙◌, ◌+◌}
+use Rattle.band_line.specs.Arena.{inserted}
+use Rattle.band_line.specs.Store.{node_values}
+use Rattle.band_line.proofs.ArenaMaps.{arena_map-inserted}
+use Rattle.band_line.proofs.NodeValues.{len_is, others_shown, values_shown}
+use Rattle.band_line.proofs.SoundArena.{sound_mapped}
 use Rattle.band_line.proofs.arena.Arena.insert.Goals as goal
 
--- the slot that was vacated last tells what is found in it
-reads : {T : Type 0} {slots : List (Slot T)} {capacity len id : ℕ} {first : Option ℕ} {d : Slot T} → IsArena slots capacity len first
-    → first ≡ Some id → d ≡ get_or slots id d → next_at slots id ≡ next_of d
-reads {T} {slots} {capacity} {len} {id} {first} {d} sound begins found =
-    get_or-map next_of slots id d None (first_within sound begins) ∙ ap next_of (sym found)
+pub returns-clause-state : goal.returns-clause-state
+returns-clause-state g c =
+    rw (c.insert.ensures.state, ← c.self.view_is)
+    (arena_map-inserted (λ node. node.value) c.self.inside.store (record { links = tt; value = c.args.value }))
 
-module _ (g : Over) (c : goal.After-next-in-Vacant-1 g) where
-  begins : c.self.inside.vacant ≡ Some c.index.result
-  begins = sym c.get.ensures ∙ c.in-Some.is ∙ ap Some (sym c.index.ensures)
+pub returns-clause-others : goal.returns-clause-others
+returns-clause-others g c = rw (← c.self.view_is) (others_shown c.self.inside.store c.insert.new.self c.insert.ensures.others)
 
-  tells : next_at c.self.inside.slots.items c.index.result ≡ Some c.in-Vacant.next
-  tells = reads c.self.invariant begins c.index_mut.ensures.value ∙ ap next_of (sym c.replace.ensures.value ∙ c.in-Vacant.is)
+pub returns-clause-keeps : goal.returns-clause-keeps
+returns-clause-keeps g c = rw (← c.self.view_is) (values_shown c.self.inside.store c.insert.new.self c.insert.ensures.keeps)
 
-vacant_has_none : {T : Type 0} {slots : List (Slot T)} {capacity len id : ℕ} {first : Option ℕ} → IsArena slots capacity len first → first ≡ Some id → next_at slots id ≡ None → ⊥
-vacant_has_none sound begins none = let vacant = first_vacant sound begins in absurd (cc)
+pub returns-clause-len : goal.returns-clause-len
+returns-clause-len g c =
+    rw (← c.self.view_is) (len_is c.insert.new.self ∙ c.insert.ensures.len ∙ ap (λ n. n + 1) (sym (len_is c.self.inside.store)))
 
-pub unreachable-requires : goal.unreachable-requires
-unreachable-requires g c =
-    let begins : c.self.inside.vacant ≡ Some c.index.result = sym c.get.ensures ∙ c.in-Some.is ∙ ap Some (sym c.index.ensures) in
-    vacant_has_none c.self.invariant begins (reads c.self.invariant begins c.index_mut.ensures.value ∙ ap next_of (sym c.replace.ensures.value ∙ c.in-Occupied.is))
-
-pub invariant_of-self : goal.invariant_of-self
-invariant_of-self g c = rw c.replace.ensures.after (fills c.args.value c.self.invariant (begins g c) (tells g c)).sound
-
--- where no slot is vacant, room is behind them all
-room_behind : {T : Type 0} {slots : List (Slot T)} {capacity len : ℕ} {first : Option ℕ} → IsArena slots capacity len first → first ≡ None → 0 < capacity - len → length slots < capacity
-room_behind sound none room = omega (arith, (all_occupied sound none).1)
-
-pub at-id-requires : goal.at-id-requires
-at-id-requires g c = omega (arith, room_behind c.self.invariant (sym c.get.ensures ∙ c.in-None.is) (rw (← c.self.view_is) at c.requires), c.len.ensures, c.self.invariant.numbered)
-
-pub push_reserved-requires : goal.push_reserved-requires
-push_reserved-requires g c = omega (arith, room_behind c.self.invariant (sym c.get.ensures ∙ c.in-None.is) (rw (← c.self.view_is) at c.requires))
-
-pub invariant_of-self-in-None : goal.invariant_of-self-in-None
-invariant_of-self-in-None g c =
-    rw (c.push_reserved.ensures.items, c.push_reserved.ensures.capacity) (pushes c.args.value c.self.invariant (sym c.get.ensures ∙ c.in-None.is)).sound
-
-pub returns-in-Vacant-clause-state : goal.returns-in-Vacant-clause-state
-returns-in-Vacant-clause-state g c = rw (c.replace.ensures.after, ← c.self.view_is) (fills c.args.value c.self.invariant (begins g c) (tells g c)).state
-
-pub returns-in-Vacant-clause-here : goal.returns-in-Vacant-clause-here
-returns-in-Vacant-clause-here g c =
-    rw (← c.index.ensures, c.replace.ensures.after)
-    (value-set_same c.self.inside.slots.items c.index.result (Occupied c.args.value) (first_within c.self.invariant (begins g c)))
-
-pub returns-in-Vacant-clause-keeps : goal.returns-in-Vacant-clause-keeps
-returns-in-Vacant-clause-keeps g c = λ other here.
-    let slots = c.self.inside.slots.items in
-    let vacant = vacant_at slots c.index.result (first_vacant c.self.invariant (begins g c)) in
-    rw (c.replace.ensures.after, ← c.self.view_is)
-    ((fills c.args.value c.self.invariant (begins g c) (tells g c)).others other
-    (differs (map value_of slots) c.index.result other vacant (rw (← c.self.view_is) at here)))
-
-pub returns-in-Vacant-clause-len : goal.returns-in-Vacant-clause-len
-returns-in-Vacant-clause-len g c =
-    rw (c.replace.ensures.after, ← c.self.view_is) (omega (arith, (fills c.args.value c.self.invariant (begins g c) (tells g c)).sound.counted, c.self.invariant.counted))
-
-pub returns-in-None-clause-len : goal.returns-in-None-clause-len
-returns-in-None-clause-len g c =
-    rw (c.push_reserved.ensures.items, ← c.self.view_is) (omega (arith, (pushes c.args.value c.self.invariant (sym c.get.ensures ∙ c.in-None.is)).sound.counted, c.self.invariant.counted))
-
-pub returns-in-Vacant-clause-others : goal.returns-in-Vacant-clause-others
-returns-in-Vacant-clause-others g c = λ other differs.
-    rw (c.replace.ensures.after, ← c.self.view_is)
-    ((fills c.args.value c.self.invariant (begins g c) (tells g c)).others other (λ e. differs (e ∙ c.index.ensures)))
-
-pub returns-in-Vacant-clause-sound : goal.returns-in-Vacant-clause-sound
-returns-in-Vacant-clause-sound g c =
-    rw c.replace.ensures.after
-    (sound_arena (omega (arith, length-set c.self.inside.slots.items c.index.result (Occupied c.args.value))) (fills c.args.value c.self.invariant (begins g c) (tells g c)).sound)
-
-pub returns-in-None-clause-sound : goal.returns-in-None-clause-sound
-returns-in-None-clause-sound g c =
-    let none = sym c.get.ensures ∙ c.in-None.is in
-    let room = room_behind c.self.invariant none (rw (← c.self.view_is) at c.requires) in
-    rw (c.push_reserved.ensures.items, c.push_reserved.ensures.capacity)
-    (sound_arena (omega (arith, length_push c.self.inside.slots.items (Occupied c.args.value), room)) (pushes c.args.value c.self.invariant none).sound)
+pub returns-clause-sound : goal.returns-clause-sound
+returns-clause-sound g c = sound_mapped (λ node. node.value) c.insert.new.self c.insert.ensures.sound

@@ -1,7 +1,9 @@
 use Rattle.band_line.specs.Arena.{removed}
 use Rattle.band_line.specs.WaitList.{removed_waiter}
 use Rattle.band_line.specs.Line.{list_of}
-use Rattle.band_line.proofs.LineLemmas.{Makes, Loses, node_values, removes, loses, no_links, held, sound_list}
+use Rattle.band_line.proofs.LineLemmas.{Makes, Loses, removes, loses, no_links, sound_list}
+use Rattle.band_line.proofs.NodeValues.{held}
+use Rattle.band_line.specs.Store.{node_values}
 use Rattle.band_line.proofs.SoundArena.{sound_mapped}
 use Rattle.band_line.proofs.line.Line.remove.Given.{Over}
 use Rattle.band_line.proofs.line.Line.remove.Goals as goal

@@ -1,7 +1,7 @@
 use Rattle.band_line.specs.Arena.{ArenaState, with_room, slot_limit}
 use Rattle.band_line.specs.Line.{IsWaitLine, list_of}
 use Rattle.std.proofs.Common.{arith, ap, sym, ◌∙◌, subst, ℕ, ◌+◌, ◌*◌, ◌<◌, ◌≤◌, min, max, OnOk, Option}
-use Rattle.band_line.specs.declared.nodes.Node.{Node}
+use Rattle.band_line.specs.Line.{Node}
 use Rattle.band_line.proofs.ArenaMaps.{occupied_len-arena_map}
 use Rattle.band_line.proofs.LineLemmas.{sound_list}
 use Rattle.band_line.proofs.SoundArena.{sound_mapped}

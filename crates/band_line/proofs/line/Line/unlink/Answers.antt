@@ -1,7 +1,9 @@
 use Rattle.std.proofs.Common.{◌≡◌, ℕ, Some, true, arith, refl, sym, ap, ◌∙◌}
 use Rattle.band_line.specs.Arena.{value_at}
-use Rattle.band_line.specs.Line.{HasAsManyNodes, list_of, node_value, changed_at, asked, closed, gap_visits}
-use Rattle.band_line.proofs.LineLemmas.{detaches, writes, held, value_is, neighbors_asked, gap_visits-le, gap_visits-first, sound_list, no_links}
+use Rattle.band_line.specs.Store.{node_value, changed_at}
+use Rattle.band_line.specs.Line.{HasAsManyNodes, list_of, asked, closed, gap_visits}
+use Rattle.band_line.proofs.NodeValues.{held, value_is}
+use Rattle.band_line.proofs.LineLemmas.{detaches, writes, neighbors_asked, gap_visits-le, gap_visits-first, sound_list, no_links}
 use Rattle.band_line.specs.WaitList.{WaitListState, IsWaitList, IsWritten, IsUnlinked}
 use Rattle.band_line.proofs.WaitListLemmas.{after_write, after_unlink}
 use Rattle.band_line.proofs.line.Line.unlink.Goals as goal

@@ -1,5 +1,6 @@
 use Rattle.std.proofs.Common.{refl, ◌∙◌}
-use Rattle.band_line.proofs.LineLemmas.{writes, held, value_is, sound_list}
+use Rattle.band_line.proofs.LineLemmas.{writes, sound_list}
+use Rattle.band_line.proofs.NodeValues.{held, value_is}
 use Rattle.band_line.proofs.WaitListLemmas.{after_write}
 use Rattle.band_line.proofs.line.Line.waiter_mut.Goals as goal
 

@@ -1,6 +1,6 @@
 use Rattle.std.proofs.Common.{arith, ◌-◌}
 use Rattle.band_line.proofs.SoundArena.{sound_room}
-use Rattle.band_line.proofs.arena.Arena.with_capacity.Goals as goal
+use Rattle.band_line.proofs.store.Store.with_capacity.Goals as goal
 
 pub returns-clause-sound : goal.returns-clause-sound
 returns-clause-sound g c =

@@ -1,7 +1,7 @@
 use Rattle.std.proofs.Common.{sym, ◌∙◌}
 use Rattle.band_line.proofs.LineLemmas.{waits, points_next}
 use Rattle.band_line.proofs.Linking.{next_links}
-use Rattle.band_line.proofs.nodes.Arena+Node+T.close_gap.Goals as goal
+use Rattle.band_line.proofs.nodes.Store+Links+T.close_gap.Goals as goal
 
 pub point_next-requires : goal.point_next-requires
 point_next-requires g c = λ id e. waits c.args.self.now _ (c.requires.prev c.in-Some.between (sym c.get.ensures ∙ c.in-Some.is) id e)
