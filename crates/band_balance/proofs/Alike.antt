@@ -1,4 +1,4 @@
--- No rule looks at the order of those granted: of lines that are alike, a rule makes lines that are alike.
+-- No rule looks at the order of those granted or of those ended: of objects that are alike, a rule makes objects that are alike.
 use Rattle.std.proofs.Common.{◌≡◌, ℕ, ◌+◌, ◌-◌, nat_le, ◌≤◌, Bool, true, false, cond, List, [], ◌∷◌, ◌++◌, map, length, Option, Some, None, refl, sym, ap, ◌∙◌, subst}
 use Rattle.std.proofs.Common.{arith}
 use Rattle.std.specs.List.{AllByRecursion}
@@ -197,10 +197,10 @@ module _ {K : Type 0} (same : K → K → Bool) (told : TellsApart same) where
           let all = counts ∙ ap (λ (b : Bool). cond b 1 0 + count_named (has_name same name) es) other in
           omega (arith, all, rest)
 
-  module _ (object : Object (Tag K)) (orderly : IsOrderly same object) (granted : List (Entry (Tag K))) (any : IsPermutation object.line.granted granted) where
-    -- the same object with those granted in another order
+  module _ (object : Object (Tag K)) (orderly : IsOrderly same object) (granted ended : List (Entry (Tag K))) (any : IsPermutation object.line.granted granted) (any_ended : IsPermutation object.ended ended) where
+    -- the same object with those granted and those ended in another order
     abbrev Shuffled : Object (Tag K)
-    Shuffled = record object { line = with_granted object.line granted }
+    Shuffled = record object { line = with_granted object.line granted; ended = ended }
 
     alike : AreAlike object.line (with_granted object.line granted)
     alike = reordered object.line granted any
@@ -213,7 +213,17 @@ module _ {K : Type 0} (same : K → K → Bool) (told : TellsApart same) where
     found : (name : K) → entry_named (has_name same name) granted ≡ entry_named (has_name same name) object.line.granted
     found name = granted-alike (has_name same name) object.line (with_granted object.line granted) alike (once name)
 
-    shut : (answer : Answer) (one other : Line (Tag K)) (held : List (Entry (Tag K))) (closed : Bool) (gone other_gone : List (Entry (Tag K))) → AreAlike one other → other_gone ≡ gone
+    same_ended : (name : K) → FindsTheSame (has_name same name) object.ended ended
+    same_ended name = finds_the_same (has_name same name) object.ended ended any_ended
+
+    once_ended : (name : K) → count_named (has_name same name) object.ended ≤ 1
+    once_ended name = named_once name object.ended (pairwise_front _ object.ended (requests object.line) orderly.once)
+
+    -- those ended without one of this name
+    left_ended : (name : K) → IsPermutation (without (has_name same name) object.ended) (without (has_name same name) ended)
+    left_ended name = (same_ended name).left (once_ended name)
+
+    shut : (answer : Answer) (one other : Line (Tag K)) (held : List (Entry (Tag K))) (closed : Bool) (gone other_gone : List (Entry (Tag K))) → AreAlike one other → IsPermutation gone other_gone
         → TurnsAlike (turn answer (record object { line = one; held = held; closed = closed; ended = gone })) (turn answer (record object { line = other; held = held; closed = closed; ended = other_gone }))
     shut answer one other held closed gone other_gone h same_gone = record {
       answer = refl;
@@ -222,8 +232,8 @@ module _ {K : Type 0} (same : K → K → Bool) (told : TellsApart same) where
     }
 
     turned : (answer : Answer) (one other : Line (Tag K)) (held : List (Entry (Tag K))) → AreAlike one other
-        → TurnsAlike (turn answer (record object { line = one; held = held })) (turn answer (record object { line = other; held = held }))
-    turned answer one other held h = shut answer one other held object.closed object.ended object.ended h refl
+        → TurnsAlike (turn answer (record object { line = one; held = held })) (turn answer (record object { line = other; held = held; ended = ended }))
+    turned answer one other held h = shut answer one other held object.closed object.ended ended h any_ended
 
     either : (b : Bool) {one one' other other' : Turn (Tag K)} → TurnsAlike one one' → TurnsAlike other other' → TurnsAlike (cond b one other) (cond b one' other')
     either true first second = first
@@ -235,10 +245,10 @@ module _ {K : Type 0} (same : K → K → Bool) (told : TellsApart same) where
 
     dropped : (name : K) (it : Option (Entry (Tag K))) → TurnsAlike (drop_of it (has_name same name) object) (drop_of it (has_name same name) Shuffled)
     dropped name (Some entry) = turned Done _ _ (without (has_name same name) object.held) (give_back-alike entry.size _ _ alike)
-    dropped name None = shut Done _ _ object.held object.closed (without (has_name same name) object.ended) (without (has_name same name) object.ended) (cancel-alike (has_name same name) _ _ alike (once name)) refl
+    dropped name None = shut Done _ _ object.held object.closed _ _ (cancel-alike (has_name same name) _ _ alike (once name)) (left_ended name)
 
     told_of : (name : K) (waker : ℕ) (gone : Option (Entry (Tag K))) → TurnsAlike (poll_ended gone (has_name same name) waker object) (poll_ended gone (has_name same name) waker Shuffled)
-    told_of name waker (Some entry) = shut Closed _ _ object.held object.closed (without (has_name same name) object.ended) (without (has_name same name) object.ended) alike refl
+    told_of name waker (Some entry) = shut Closed _ _ object.held object.closed _ _ alike (left_ended name)
     told_of name waker None =
         subst (λ (it : Option (Entry (Tag K))). TurnsAlike (poll_of (entry_named (has_name same name) object.line.granted) (has_name same name) waker object) (poll_of it (has_name same name) waker Shuffled))
         (sym (found name)) (polled name waker (entry_named (has_name same name) object.line.granted))
@@ -246,7 +256,9 @@ module _ {K : Type 0} (same : K → K → Bool) (told : TellsApart same) where
     act-shuffled : (rule : Rule K) → TurnsAlike (act same rule object) (act same rule Shuffled)
     act-shuffled (Ask made size waker) =
         either (is_served size object.line) (turned Ready _ _ (hold made size object.held) (take_permits-alike size _ _ alike)) (turned Pending _ _ object.held (join-alike made size waker _ _ alike))
-    act-shuffled (Poll name waker) = told_of name waker (entry_named (has_name same name) object.ended)
+    act-shuffled (Poll name waker) =
+        subst (λ (gone : Option (Entry (Tag K))). TurnsAlike (poll_ended (entry_named (has_name same name) object.ended) (has_name same name) waker object) (poll_ended gone (has_name same name) waker Shuffled))
+        (sym ((same_ended name).found (once_ended name))) (told_of name waker (entry_named (has_name same name) object.ended))
     act-shuffled (Try made size) =
         either (is_served size object.line) (turned Done _ _ (hold made size object.held) (take_permits-alike size _ _ alike)) (turned Nothing _ _ object.held alike)
     act-shuffled (Drop name) = dropped name (entry_named (has_name same name) object.held)
@@ -254,7 +266,8 @@ module _ {K : Type 0} (same : K → K → Bool) (told : TellsApart same) where
     act-shuffled (Reduce n) = turned Done _ _ object.held (take_permits-alike n _ _ alike)
     act-shuffled (Drain n) = turned (Drained (drained n object.line)) _ _ object.held (take_permits-alike (drained n object.line) _ _ alike)
     act-shuffled Close =
-        shut Done _ _ object.held true _ _ (record { free = alike.free; waiting = refl; granted = alike.granted; wakes = refl }) refl
+        shut Done _ _ object.held true _ _ (record { free = alike.free; waiting = refl; granted = alike.granted; wakes = refl })
+        (IsPermutation-append_left (map entry_of object.line.waiting) object.ended ended any_ended)
     act-shuffled (Forget permit) = turned Done _ _ (without (has_name same permit) object.held) alike
     act-shuffled (Split permit made n) = either (nat_le n (size_in (entry_named (has_name same permit) object.held))) (turned Done _ _ _ alike) (turned Nothing _ _ object.held alike)
     act-shuffled (Merge kept spent) = turned Done _ _ _ alike
@@ -265,5 +278,5 @@ module _ {K : Type 0} (same : K → K → Bool) (told : TellsApart same) where
   pub act-alike : (rule : Rule K) (one other : Object (Tag K)) → IsOrderly same one → ObjectsAlike one other → TurnsAlike (act same rule one) (act same rule other)
   act-alike rule one other orderly h =
       subst (λ (object : Object (Tag K)). TurnsAlike (act same rule one) (act same rule object))
-      (λ i. record { kind = sym h.kind i; line = alike_is one.line other.line h.line i; held = sym h.held i; closed = sym h.closed i; ended = sym h.ended i })
-      (act-shuffled one orderly other.line.granted h.line.granted rule)
+      (λ i. record { kind = sym h.kind i; line = alike_is one.line other.line h.line i; held = sym h.held i; closed = sym h.closed i; ended = other.ended })
+      (act-shuffled one orderly other.line.granted other.ended h.line.granted h.ended rule)

@@ -2,6 +2,7 @@
 use Rattle.std.specs.Prelude.{◌≡◌, ℕ, ◌+◌, ◌<◌, ◌≤◌, Bool, true, false, List, [], ◌∷◌, ◌++◌, map, length, ℤ, pos}
 use Rattle.std.specs.Prelude.{neg_ℤ, ◌+ℤ◌, ◌≤ℤ◌, ◌<ℤ◌, Option, Some, None, IfSome}
 use Rattle.std.specs.List.{AllByRecursion, list_any, filter}
+use Rattle.std.specs.List.Sorted.{IsPermutation}
 use Rattle.band_balance.specs.Line.{Entry, Waiting, Line, AreAlike, entry_of, requests, total, u64_max}
 use Rattle.band_balance.specs.Line.{without, without_waiting}
 use Rattle.band_balance.specs.Object.{Object, Turn, Kind, Semaphore, Mutex, ReaderWriter, Permit, Write, Tag}
@@ -96,14 +97,14 @@ module _ {K : Type 0} (same : K → K → Bool) where
     -- where permits are owed still, nobody is granted
     pub owed : after.free <ℤ pos 0 → granted_between before after ≡ []
 
--- two objects that differ at most in the order of those granted, and two turns that answer and wake the same
--- and leave such objects
+-- two objects that differ at most in the order of those granted and of those ended, and two turns that answer
+-- and wake the same and leave such objects
 pub record ObjectsAlike {N : Type 0} (one other : Object N) : Type 0 where
   pub kind : other.kind ≡ one.kind
   pub line : AreAlike one.line other.line
   pub held : other.held ≡ one.held
   pub closed : other.closed ≡ one.closed
-  pub ended : other.ended ≡ one.ended
+  pub ended : IsPermutation one.ended other.ended
 
 pub record TurnsAlike {N : Type 0} (one other : Turn N) : Type 0 where
   pub answer : other.answer ≡ one.answer

@@ -90,7 +90,7 @@ module _ {N : Type 0} where
   join name size waker line =
       record line { waiting = line.waiting ++ record { name = name; size = size; waker = waker } ∷ [] }
 
-  -- what may be taken without waiting
+  -- what may be taken without waiting; of a closed object, by a drain alone
   abbrev pub available : Line N → ℕ
   available line = if nobody_waits line.waiting && int_lt (pos 0) line.free then unsigned_abs line.free else 0
 

@@ -69,8 +69,8 @@ pub fn rules_grant_a_front()
         (act bytes_eq rule object).object.line }
 {}
 
-/// No rule looks at the order of those granted: of objects that differ in it alone, a rule answers and wakes the same, and makes
-/// objects that differ in it alone.
+/// No rule looks at the order of those granted or of those ended: of objects that differ in these alone, a rule answers and wakes
+/// the same, and makes objects that differ in these alone.
 pub fn rules_look_at_no_order()
     ensures { (rule : Rule (List ℕ)) → (one other : Object (Tag (List ℕ))) → IsOrderly bytes_eq one
         → ObjectsAlike one other

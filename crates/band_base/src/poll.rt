@@ -17,7 +17,7 @@ pub enum PollError {
     /// There was no memory for what the poll had to keep. Nothing changed.
     #[error("out of memory")]
     NoMemory,
-    /// The state gave its value before. Nothing changed.
+    /// The state ended before: it gave its value, or answered `Closed`. Nothing changed.
     #[error("polled after it was ready")]
     Finished,
     /// A count stands at its last value. Nothing changed.

@@ -39,7 +39,7 @@ IsJoined stages.NotPolled = ⊥
 IsJoined (stages.Joined slot) = Unit {0}
 IsJoined stages.Finished = ⊥
 
--- the request is in the line of the object at its place
+-- the request waits, was granted or was ended at the object at its place
 abbrev pub FitsRequest : Option ObjectState → RequestState → Type 0
 FitsRequest None request = ⊥
 FitsRequest (Some sem) request =
@@ -58,7 +58,7 @@ IsFit sems (things.Object place) = place < length sems
 IsFit sems (things.Request place request) = FitsRequest (slice_get sems place) request
 IsFit sems (things.Holding holding) = FitsHolding (slice_get sems holding.of) holding
 
--- a request that was not polled yet, or that is in the line, of an object
+-- a request of an object that was not polled yet, or that waits, was granted or was ended
 abbrev pub IsOpen : Stage → Type 0
 IsOpen stages.NotPolled = Unit {0}
 IsOpen (stages.Joined slot) = Unit {0}
@@ -122,7 +122,7 @@ PollsToken (tokens.Holding holding) waker old token reply new =
     (token ≡ tokens.Holding holding) × (reply ≡ replies.Refused Finished) × (new ≡ old)
 PollsToken (tokens.Request request) waker old token reply new = PollsRequest request waker old token reply new
 
--- one object becomes another, in whatever order those granted are kept
+-- one object becomes another, in whatever order those granted and those ended are kept
 pub record Changes (place : ℕ) (old new : List ObjectState) (step : ObjectState → ObjectState) : Type 0 where
   pub before : ObjectState
   pub after : ObjectState

@@ -175,7 +175,7 @@ impl Object {
         self.semaphore().is_closed()
     }
 
-    /// Whether it could be had without waiting.
+    /// Whether it could be had without waiting, be the object closed or not.
     pub(crate) fn would_serve(&self, want: Want) -> bool
         ensures { result ≡ is_served (size_for want self.now.kind) self.now.line }
     {

@@ -69,7 +69,7 @@ impl Player {
         self.table.run(self.alloc, call, steps)
     }
 
-    /// Takes the next waker of the last step, in the order of the grants.
+    /// Takes the next waker of the last step, in the order of those that it granted or ended.
     pub fn take_wake(&mut self) -> Option<Waker>
         ensures woken { MatchOption result
             ((wakers_left self.old ≡ []) × (wakers_left self.new ≡ []))

@@ -165,6 +165,6 @@ abbrev pub TakesWake : PartialLine → Option Waker → PartialLine → Type 0
 TakesWake old None new = (old.wakes ≡ []) × (new ≡ old)
 TakesWake old (Some waker) new = (old.wakes ≡ waker.0 ∷ new.wakes) × (new ≡ record old { wakes = new.wakes })
 
--- how many requests were granted, each of which is woken, and how many debts are gone
+-- how many requests were granted or ended, each of which is woken, and how many debts are gone
 abbrev pub served : PartialLine → PartialLine → ℕ
 served old new = (length new.wakes - length old.wakes) + (debts old.nodes - debts new.nodes)

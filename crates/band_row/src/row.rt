@@ -74,7 +74,7 @@ impl Row {
         self.word
     }
 
-    /// The nodes, linked and granted.
+    /// The nodes: those linked, those granted and those ended.
     pub fn list(&self) -> &WaitList<WaitNode>
         ensures list { result.now ≡ self.now.list }
         ensures row { IsRow self.now }

@@ -26,33 +26,33 @@ use Rattle.band_rules.proofs.States.{IsAt, here, later, all_at, IsAbsent, with_o
 
 -- which object has a name
 module _ (name : List ℕ) where
-  named_first : (first : Named) (rest : State) → bytes_eq name first.name ≡ true → object_named name (first ∷ rest) ≡ Some first.object
+  pub named_first : (first : Named) (rest : State) → bytes_eq name first.name ≡ true → object_named name (first ∷ rest) ≡ Some first.object
   named_first first rest is = cond-true (bytes_eq name first.name) _ _ is
 
   named_later : (first : Named) (rest : State) → bytes_eq name first.name ≡ false → object_named name (first ∷ rest) ≡ object_named name rest
   named_later first rest apart = cond-false (bytes_eq name first.name) _ _ apart
 
-  object_named-absent : (state more : State) → AllByRecursion (IsAbsent name) state → object_named name (state ++ more) ≡ object_named name more
+  pub object_named-absent : (state more : State) → AllByRecursion (IsAbsent name) state → object_named name (state ++ more) ≡ object_named name more
   object_named-absent [] more none = refl
   object_named-absent (first ∷ rest) more none = named_later first (rest ++ more) none.0.apart ∙ object_named-absent rest more none.1
 
-  object_named-push_other : (state : State) (new : Named) → bytes_eq name new.name ≡ false → object_named name (state ++ new ∷ []) ≡ object_named name state
+  pub object_named-push_other : (state : State) (new : Named) → bytes_eq name new.name ≡ false → object_named name (state ++ new ∷ []) ≡ object_named name state
   object_named-push_other [] new apart = named_later new [] apart
   object_named-push_other (first ∷ rest) new apart = ap (λ o. cond (bytes_eq name first.name) (Some first.object) o) (object_named-push_other rest new apart)
 
 -- the object at its place, and the one that takes its place
-object_named-at : {named : Named} {state : State} → IsAt named state → object_named named.name state ≡ Some named.object
+pub object_named-at : {named : Named} {state : State} → IsAt named state → object_named named.name state ≡ Some named.object
 object_named-at {named = named} (here {rest = rest}) = named_first named.name named rest (bytes_told.itself named.name)
 object_named-at {named = named} (later {first = first} {rest = rest} apart at) = named_later named.name first rest apart ∙ object_named-at at
 
-object_named-with_object : (object : Object Tag) {named : Named} {state : State} → IsAt named state → object_named named.name (with_object named.name object state) ≡ Some object
+pub object_named-with_object : (object : Object Tag) {named : Named} {state : State} → IsAt named state → object_named named.name (with_object named.name object state) ≡ Some object
 object_named-with_object object {named = named} (here {rest = rest}) =
     ap (object_named named.name) (with_object_here named object rest) ∙ named_first named.name (record named { object = object }) rest (bytes_told.itself named.name)
 object_named-with_object object {named = named} (later {first = first} {rest = rest} apart at) =
     ap (object_named named.name) (with_object_later named first object rest apart)
     ∙ named_later named.name first (with_object named.name object rest) apart ∙ object_named-with_object object at
 
-object_named-with_other : (name : List ℕ) (object : Object Tag) {named : Named} {state : State} → IsAt named state → bytes_eq name named.name ≡ false
+pub object_named-with_other : (name : List ℕ) (object : Object Tag) {named : Named} {state : State} → IsAt named state → bytes_eq name named.name ≡ false
     → object_named name (with_object named.name object state) ≡ object_named name state
 object_named-with_other name object {named = named} (here {rest = rest}) apart =
     ap (object_named name) (with_object_here named object rest) ∙ named_later name (record named { object = object }) rest apart ∙ sym (named_later name named rest apart)

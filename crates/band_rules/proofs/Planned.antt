@@ -26,33 +26,44 @@ use Rattle.band_rules.specs.Plan.{Plan, Refuse, Make, Act, ◌>>=◌, object_for
 use Rattle.band_rules.specs.State.{State, Named, Tag, Standing, Absent, AnObject, ARequest, AHolding, standing}
 use Rattle.band_rules.specs.declared.reply.Reply.{Reply}
 use Rattle.band_rules.specs.declared.reply.Reply.TheVariants as replies
+use Rattle.band_rules.specs.Closing.{closed_by}
 use Rattle.band_rules.specs.Permits.{brought_by, removed_by, held_of}
 use Rattle.band_rules.specs.Step.{reply_of}
 use Rattle.band_rules.specs.Woken.{may_grant, closes}
 use Rattle.band_rules.proofs.States.{IsAt, each_is_at, all_at, same_named, Found, found, IsAbsent, absent}
 
--- what a call and its reply count for is what its plan brings and takes away
-pub record Counts (call : Call) (state : State) (reply : Reply) (to : List ℕ) (came gone : ℕ) : Type 0 where
+-- what a call and its reply count for is what its plan brings and takes away, and whether it closes
+pub record Counts (call : Call) (state : State) (reply : Reply) (to : List ℕ) (came gone : ℕ) (shut : Bool) : Type 0 where
   pub brings : (name : List ℕ) → brought_by name call reply ≡ cond (bytes_eq name to) came 0
   pub removes : (name : List ℕ) → removed_by name state call reply ≡ cond (bytes_eq name to) gone 0
+  pub closes : (name : List ℕ) → closed_by name call reply ≡ cond (bytes_eq name to) shut false
 
 -- a call that counts for nothing, whatever its reply
 abbrev CountsNothing : Call → State → Type 0
-CountsNothing call state = (name : List ℕ) (reply : Reply) → (brought_by name call reply ≡ 0) × (removed_by name state call reply ≡ 0)
+CountsNothing call state = (name : List ℕ) (reply : Reply) → (brought_by name call reply ≡ 0) × (removed_by name state call reply ≡ 0) × (closed_by name call reply ≡ false)
 
 nothing : (b : Bool) → ◌≡◌ {A = ℕ} 0 (cond b 0 0)
 nothing true = refl
 nothing false = refl
 
+never : (b : Bool) → false ≡ cond b false false
+never true = refl
+never false = refl
+
+just_there : (b : Bool) → b ≡ cond b true false
+just_there true = refl
+just_there false = refl
+
 -- a new object under a name that is absent
 pub record MayMake (call : Call) (state : State) (made : List ℕ) (object : Object Tag) : Type 0 where
   pub none : AllByRecursion (IsAbsent made) state
   pub new : NewObject bytes_eq object
+  pub not_closed : object.closed ≡ false
   pub lets : ForReaders call → HasAShare object.kind
   pub within : HasNumbers call → IsWithin object
   pub count : ℕ
   pub made_with : permits object ≡ pos count
-  pub counts : Counts call state replies.Done made count 0
+  pub counts : Counts call state replies.Done made count 0 false
 
 -- an allowed rule to an object of the state, which puts no name into its line but one that is absent
 pub record MayAct (call : Call) (state : State) (of : Named) (rule : Rule (List ℕ)) : Type 0 where
@@ -61,7 +72,7 @@ pub record MayAct (call : Call) (state : State) (of : Named) (rule : Rule (List 
   pub gives : rules.may_grant rule ≡ may_grant call
   pub ends : rules.closes rule ≡ closes call
   pub joins : IfSome (joiner rule of.object) (λ name. AllByRecursion (IsAbsent name) state)
-  pub counts : Counts call state (reply_of (act bytes_eq rule of.object).answer) of.name (brought rule) (removed bytes_eq rule of.object)
+  pub counts : Counts call state (reply_of (act bytes_eq rule of.object).answer) of.name (brought rule) (removed bytes_eq rule of.object) (rules.closes rule)
 
 abbrev pub IsPlanned : Call → State → Plan → Type 0
 IsPlanned call state (Refuse refusal) = Unit {0}
@@ -163,16 +174,17 @@ any_size : (n : ℕ) (kind : Kind) → is_of kind Permit ≡ true → Fits kind 
 any_size n kind offers = offers
 
 -- nothing is counted of a call, and its reply
-uncounted : (call : Call) {state : State} (reply : Reply) (to : List ℕ) → CountsNothing call state → Counts call state reply to 0 0
+uncounted : (call : Call) {state : State} (reply : Reply) (to : List ℕ) → CountsNothing call state → Counts call state reply to 0 0 false
 uncounted call reply to none = record {
   brings = λ name. (none name reply).0 ∙ nothing (bytes_eq name to);
   removes = λ name. (none name reply).1 ∙ nothing (bytes_eq name to);
+  closes = λ name. (none name reply).2 ∙ never (bytes_eq name to);
 }
 
 acts : (call : Call) {state : State} {of : Named} (rule : Rule (List ℕ)) → IsAt of state × Sound of → IsAllowed bytes_eq rule of.object
     → (rules.may_grant rule ≡ may_grant call) × (rules.closes rule ≡ closes call)
     → IfSome (joiner rule of.object) (λ name. AllByRecursion (IsAbsent name) state)
-    → Counts call state (reply_of (act bytes_eq rule of.object).answer) of.name (brought rule) (removed bytes_eq rule of.object) → IsPlanned call state (Act of rule)
+    → Counts call state (reply_of (act bytes_eq rule of.object).answer) of.name (brought rule) (removed bytes_eq rule of.object) (rules.closes rule) → IsPlanned call state (Act of rule)
 acts call rule known allowed gives joins counts = record { at = known.0; allowed = allowed; gives = gives.0; ends = gives.1; joins = joins; counts = counts }
 
 module _ (state : State) (differ : NamesDiffer state) (sound : AllByRecursion Sound state) where
@@ -192,11 +204,11 @@ module _ (state : State) (differ : NamesDiffer state) (sound : AllByRecursion So
         fits = subst (λ m. Fits of.object.kind m entry.size) (sym (modes_same mode entry.name.mode same)) (all-found _ (is_tag bytes_eq name) of.object.held entry it.0.1.each_held it.1);
       }
 
-  making : (call : Call) (made : List ℕ) (object : Object Tag) → NewObject bytes_eq object → (ForReaders call → HasAShare object.kind) → (HasNumbers call → IsWithin object)
-      → (count : ℕ) → permits object ≡ pos count → Counts call state replies.Done made count 0 → IsPlanned call state (if_unused (standing made state) >>= λ found. Make made object)
-  making call made object new lets within count made_with counts =
+  making : (call : Call) (made : List ℕ) (object : Object Tag) → NewObject bytes_eq object → object.closed ≡ false → (ForReaders call → HasAShare object.kind) → (HasNumbers call → IsWithin object)
+      → (count : ℕ) → permits object ≡ pos count → Counts call state replies.Done made count 0 false → IsPlanned call state (if_unused (standing made state) >>= λ found. Make made object)
+  making call made object new not_closed lets within count made_with counts =
       for_unused call state (standing made state) _
-      (λ none. record { none = absent made state none; new = new; lets = lets; within = within; count = count; made_with = made_with; counts = counts })
+      (λ none. record { none = absent made state none; new = new; not_closed = not_closed; lets = lets; within = within; count = count; made_with = made_with; counts = counts })
 
   module _ (call : Call) (mode : Mode) (size : Kind → ℕ) (fits : (kind : Kind) → is_of kind mode ≡ true → Fits kind mode (size kind)) (keeps : (false ≡ may_grant call) × (false ≡ closes call))
       (none : CountsNothing call state) where
@@ -223,70 +235,73 @@ module _ (state : State) (differ : NamesDiffer state) (sound : AllByRecursion So
 
   pub planned : (call : Call) → IsPlanned call state (plan call state)
   planned (calls.Sem made n) =
-      making _ made (new_object Semaphore n) (new_semaphore_is bytes_eq n) (λ for. tt) (λ small. within_new Semaphore n (number_fits n small))
-      n (all_free n) (record { brings = λ name. refl; removes = λ name. nothing (bytes_eq name made) })
+      making _ made (new_object Semaphore n) (new_semaphore_is bytes_eq n) refl (λ for. tt) (λ small. within_new Semaphore n (number_fits n small))
+      n (all_free n) (record { brings = λ name. refl; removes = λ name. nothing (bytes_eq name made); closes = λ name. never (bytes_eq name made) })
   planned (calls.Mutex made) =
-      making _ made (new_object Mutex 1) (new_mutex_is bytes_eq) (λ for. omega arith) (λ small. within_new Mutex 1 (omega arith))
-      1 (all_free 1) (record { brings = λ name. refl; removes = λ name. nothing (bytes_eq name made) })
+      making _ made (new_object Mutex 1) (new_mutex_is bytes_eq) refl (λ for. omega arith) (λ small. within_new Mutex 1 (omega arith))
+      1 (all_free 1) (record { brings = λ name. refl; removes = λ name. nothing (bytes_eq name made); closes = λ name. never (bytes_eq name made) })
   planned (calls.Rw made n) =
       let most = most_readers n in
-      making _ made (new_object (ReaderWriter most) most) (new_reader_writer_is bytes_eq most) (some_readers n made) (λ small. within_new (ReaderWriter most) most (most_fits n made small))
-      most (all_free most) (record { brings = λ name. refl; removes = λ name. nothing (bytes_eq name made) })
-  planned (calls.Ask made of n waker) = asking _ Permit (λ kind. n) (any_size n) (refl, refl) (λ name reply. (refl, refl)) made of waker
-  planned (calls.Lock made of waker) = asking _ Lock (λ kind. size_of kind Lock) (λ kind offers. (offers, refl)) (refl, refl) (λ name reply. (refl, refl)) made of waker
-  planned (calls.Read made of waker) = asking _ Read (λ kind. size_of kind Read) (λ kind offers. (offers, refl)) (refl, refl) (λ name reply. (refl, refl)) made of waker
-  planned (calls.Write made of waker) = asking _ Write (λ kind. size_of kind Write) (λ kind offers. (offers, refl)) (refl, refl) (λ name reply. (refl, refl)) made of waker
-  planned (calls.Try made of n) = trying _ Permit (λ kind. n) (any_size n) (refl, refl) (λ name reply. (refl, refl)) made of
-  planned (calls.TryLock made of) = trying _ Lock (λ kind. size_of kind Lock) (λ kind offers. (offers, refl)) (refl, refl) (λ name reply. (refl, refl)) made of
-  planned (calls.TryRead made of) = trying _ Read (λ kind. size_of kind Read) (λ kind offers. (offers, refl)) (refl, refl) (λ name reply. (refl, refl)) made of
-  planned (calls.TryWrite made of) = trying _ Write (λ kind. size_of kind Write) (λ kind offers. (offers, refl)) (refl, refl) (λ name reply. (refl, refl)) made of
+      making _ made (new_object (ReaderWriter most) most) (new_reader_writer_is bytes_eq most) refl (some_readers n made) (λ small. within_new (ReaderWriter most) most (most_fits n made small))
+      most (all_free most) (record { brings = λ name. refl; removes = λ name. nothing (bytes_eq name made); closes = λ name. never (bytes_eq name made) })
+  planned (calls.Ask made of n waker) = asking _ Permit (λ kind. n) (any_size n) (refl, refl) (λ name reply. (refl, refl, refl)) made of waker
+  planned (calls.Lock made of waker) = asking _ Lock (λ kind. size_of kind Lock) (λ kind offers. (offers, refl)) (refl, refl) (λ name reply. (refl, refl, refl)) made of waker
+  planned (calls.Read made of waker) = asking _ Read (λ kind. size_of kind Read) (λ kind offers. (offers, refl)) (refl, refl) (λ name reply. (refl, refl, refl)) made of waker
+  planned (calls.Write made of waker) = asking _ Write (λ kind. size_of kind Write) (λ kind offers. (offers, refl)) (refl, refl) (λ name reply. (refl, refl, refl)) made of waker
+  planned (calls.Try made of n) = trying _ Permit (λ kind. n) (any_size n) (refl, refl) (λ name reply. (refl, refl, refl)) made of
+  planned (calls.TryLock made of) = trying _ Lock (λ kind. size_of kind Lock) (λ kind offers. (offers, refl)) (refl, refl) (λ name reply. (refl, refl, refl)) made of
+  planned (calls.TryRead made of) = trying _ Read (λ kind. size_of kind Read) (λ kind offers. (offers, refl)) (refl, refl) (λ name reply. (refl, refl, refl)) made of
+  planned (calls.TryWrite made of) = trying _ Write (λ kind. size_of kind Write) (λ kind offers. (offers, refl)) (refl, refl) (λ name reply. (refl, refl, refl)) made of
   planned (calls.Poll name waker) =
       for_asked _ _ (standing name state) _ (λ of entry is.
       let it = stands name is in
-      acts _ (rules.Poll name waker) it.0 (found_some _ entry it.1) (refl, refl) tt (uncounted _ _ of.name (λ other reply. (refl, refl))))
+      acts _ (rules.Poll name waker) it.0 (found_some _ entry it.1) (refl, refl) tt (uncounted _ _ of.name (λ other reply. (refl, refl, refl))))
   planned (calls.Drop name) =
       for_owner _ _ (standing name state) _
       (λ of entry is.
       let it = stands name is in
       acts _ (rules.Drop name) it.0 (some_among (is_tag bytes_eq name) (asked of.object) of.object.held (inl (found_some _ entry it.1))) (refl, refl) tt
-      (uncounted _ _ of.name (λ other reply. (refl, refl))))
+      (uncounted _ _ of.name (λ other reply. (refl, refl, refl))))
       (λ of entry is.
       let it = stands name is in
       acts _ (rules.Drop name) it.0 (some_among (is_tag bytes_eq name) (asked of.object) of.object.held (inr (found_some _ entry it.1))) (refl, refl) tt
-      (uncounted _ _ of.name (λ other reply. (refl, refl))))
+      (uncounted _ _ of.name (λ other reply. (refl, refl, refl))))
   planned (calls.Release of n) =
       for_object _ _ (λ kind. is_of kind Permit) (standing of state) _ (λ it is offers.
       for_test _ _ (overflows n it.object.line (total it.object.held)) refusals.Overflow _ (λ fits.
       let known = stands of is in
       acts _ (rules.Release n) known.0 (offers, fits) (refl, refl) tt
-      (subst (λ to. Counts (calls.Release of n) state replies.Done to n 0) (bytes_told.equal of it.name known.1) (record { brings = λ name. refl; removes = λ name. nothing (bytes_eq name of) }))))
+      (subst (λ to. Counts (calls.Release of n) state replies.Done to n 0 false) (bytes_told.equal of it.name known.1) (record { brings = λ name. refl; removes = λ name. nothing (bytes_eq name of); closes = λ name. never (bytes_eq name of) }))))
   planned (calls.Reduce of n) =
       for_object _ _ (λ kind. is_of kind Permit) (standing of state) _ (λ it is offers.
       for_test _ _ (owes_too_much n it.object.line) refusals.Debt _ (λ fits.
       let known = stands of is in
       acts _ (rules.Reduce n) known.0 (offers, fits) (refl, refl) tt
-      (subst (λ to. Counts (calls.Reduce of n) state replies.Done to 0 n) (bytes_told.equal of it.name known.1) (record { brings = λ name. nothing (bytes_eq name of); removes = λ name. refl }))))
+      (subst (λ to. Counts (calls.Reduce of n) state replies.Done to 0 n false) (bytes_told.equal of it.name known.1) (record { brings = λ name. nothing (bytes_eq name of); removes = λ name. refl; closes = λ name. never (bytes_eq name of) }))))
   planned (calls.Drain of n) =
       for_object _ _ (λ kind. is_of kind Permit) (standing of state) _ (λ it is offers.
       let known = stands of is in
       let count = drained n it.object.line in
       acts _ (rules.Drain n) known.0 offers (refl, refl) tt
-      (subst (λ to. Counts (calls.Drain of n) state (replies.Drained count) to 0 count) (bytes_told.equal of it.name known.1)
-      (record { brings = λ name. nothing (bytes_eq name of); removes = λ name. refl })))
+      (subst (λ to. Counts (calls.Drain of n) state (replies.Drained count) to 0 count false) (bytes_told.equal of it.name known.1)
+      (record { brings = λ name. nothing (bytes_eq name of); removes = λ name. refl; closes = λ name. never (bytes_eq name of) })))
   planned (calls.Close of) =
       for_object _ _ (λ kind. is_of kind Permit) (standing of state) _ (λ it is offers.
-      acts _ rules.Close (stands of is).0 offers (refl, refl) tt (uncounted _ _ it.name (λ other reply. (refl, refl))))
+      let known = stands of is in
+      acts _ rules.Close known.0 offers (refl, refl) tt
+      (subst (λ to. Counts (calls.Close of) state replies.Done to 0 0 true) (bytes_told.equal of it.name known.1)
+      (record { brings = λ name. nothing (bytes_eq name of); removes = λ name. nothing (bytes_eq name of); closes = λ name. just_there (bytes_eq name of) })))
   planned (calls.Forget name) =
       for_lender _ _ Permit (standing name state) _ (λ of entry is same.
       let it = stands name is in
       acts _ (rules.Forget name) it.0 (holds Permit name of entry is same) (refl, refl) tt
-      (record { brings = λ other. nothing (bytes_eq other of.name); removes = λ other. ap (held_of other) is ∙ ap (λ size. cond (bytes_eq other of.name) size 0) (sym (ap size_in it.1)) }))
+      (record { brings = λ other. nothing (bytes_eq other of.name); removes = λ other. ap (held_of other) is ∙ ap (λ size. cond (bytes_eq other of.name) size 0) (sym (ap size_in it.1)); closes = λ other. never (bytes_eq other of.name) }))
   planned (calls.Split name made n) =
       for_lender _ _ Permit (standing name state) _ (λ of entry is same.
       for_unused _ _ (standing made state) _ (λ none.
       let known = (stands name is).0 in
       acts _ (rules.Split name made n) known (holds Permit name of entry is same, (all_at (IsAbsent made) known.0 (absent made state none)).fresh) (refl, refl) tt
-      (uncounted _ _ of.name (λ other reply. (refl, refl)))))
+      (uncounted _ _ of.name (λ other reply. (refl, refl, refl)))))
   planned (calls.Merge kept spent) =
       for_live _ _ (standing kept state) _ (for_live _ _ (standing spent state) _
       (for_lender _ _ Permit (standing kept state) _ (λ one entry is same.
@@ -299,9 +314,9 @@ module _ (state : State) (differ : NamesDiffer state) (sound : AllByRecursion So
         holds Permit kept one entry is same,
         subst (λ (of : Named). Holds bytes_eq Permit spent of.object) one_is (holds Permit spent other more also same_too),
         apart,
-      ) (refl, refl) tt (uncounted _ _ one.name (λ other reply. (refl, refl)))))))))
+      ) (refl, refl) tt (uncounted _ _ one.name (λ other reply. (refl, refl, refl)))))))))
   planned (calls.Downgrade name) =
       for_lender _ _ Write (standing name state) _ (λ of entry is same.
-      acts _ (rules.Downgrade name) (stands name is).0 (holds Write name of entry is same) (refl, refl) tt (uncounted _ _ of.name (λ other reply. (refl, refl))))
+      acts _ (rules.Downgrade name) (stands name is).0 (holds Write name of entry is same) (refl, refl) tt (uncounted _ _ of.name (λ other reply. (refl, refl, refl))))
   planned (calls.Status name) =
-      for_object _ _ (λ kind. true) (standing name state) _ (λ it is offers. acts _ rules.Status (stands name is).0 tt (refl, refl) tt (uncounted _ _ it.name (λ other reply. (refl, refl))))
+      for_object _ _ (λ kind. true) (standing name state) _ (λ it is offers. acts _ rules.Status (stands name is).0 tt (refl, refl) tt (uncounted _ _ it.name (λ other reply. (refl, refl, refl))))

@@ -7,4 +7,5 @@ pub mod Script
 pub mod Permits
 pub mod Woken
 pub mod Joined
+pub mod Closing
 pub mod Bounds

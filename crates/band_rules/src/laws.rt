@@ -1,11 +1,12 @@
 //! Laws of scripts.
 ghost use Rattle.std.specs.List.{AllByRecursion};
-ghost use Rattle.std.specs.Prelude.{◌≡◌, List, [], ℕ, true, false, pos, ◌+ℤ◌};
+ghost use Rattle.std.specs.Prelude.{◌≡◌, List, [], ◌++◌, ℕ, true, false, pos, ◌+ℤ◌};
 ghost use Rattle.band_balance.specs.Laws.{EndsAs, IsExclusive, IsWithin};
 ghost use Rattle.band_balance.specs.Settled.{HeadWaits};
 ghost use Rattle.band_script.specs.Call.{ForReaders};
 ghost use Rattle.band_script.specs.declared.call.Call.{Call as TheCall};
 ghost use Rattle.band_rules.specs.Bounds.{HasNumbers};
+ghost use Rattle.band_rules.specs.Closing.{is_closed, closed_from};
 ghost use Rattle.band_rules.specs.Joined.{GrantedInTurn, StandInTurn};
 ghost use Rattle.band_rules.specs.Permits.{brought_from, object_named, permits_of, removed_from};
 ghost use Rattle.band_rules.specs.Plan.{plan};
@@ -44,6 +45,15 @@ pub fn heads_wait()
 pub fn who_waits_is_ended()
     ensures { (calls : List TheCall)
         → AllByRecursion (λ (named : Named). EndsAs named.object.closed named.object) (state_after calls) }
+{}
+
+/// What is closed after any calls is closed after all that follow. An object is closed just where a `close` of it was
+/// answered `ok`: no other call closes it, and none opens it again.
+pub fn closing_is_for_good()
+    ensures stays { (calls more : List TheCall) → (name : List ℕ)
+        → is_closed name (state_after calls) ≡ true → is_closed name (state_after (calls ++ more)) ≡ true }
+    ensures by_close { (calls : List TheCall) → (name : List ℕ)
+        → is_closed name (state_after calls) ≡ closed_from name [] calls }
 {}
 
 /// The numbers in the calls of a script are below 2 to the 64th.

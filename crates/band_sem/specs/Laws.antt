@@ -12,7 +12,7 @@ IsSublist [] entries = Unit {0}
 IsSublist (kept ∷ more) [] = ⊥
 IsSublist (kept ∷ more) (entry ∷ rest) = ((kept ≡ entry) × IsSublist more rest) ⊎ IsSublist (kept ∷ more) rest
 
--- their slots were nobody's
+-- their slots were nobody's of the line
 abbrev pub AreNew : List (Entry ℕ) → Line ℕ → Type 0
 AreNew joined line = AllByRecursion (λ e. entry_named (is_slot e.name) (requests line) ≡ None) joined
 

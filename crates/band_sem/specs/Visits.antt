@@ -18,7 +18,7 @@ pub record FewVisits (old new : SemaphoreState) (before after : ℕ) : Type 0 wh
   pub no_more : after ≤ before + 8 * (served old new + 1)
   pub no_debt : new.debts ≤ old.debts
 
--- a poll of a request that joins, or is in the line, visits it
+-- a poll of a request that joins, is in the line or was ended visits it
 abbrev pub PollVisits : Stage → Result (Poll Permit) PollError → ℕ → ℕ → Type 0
 PollVisits NotPolled (Ok Pending) before after = Visits 1 2 before after
 PollVisits NotPolled (Ok (Ready permit)) before after = after ≡ before

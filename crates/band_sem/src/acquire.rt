@@ -68,7 +68,7 @@ impl Acquire {
         self.size
     }
 
-    /// Ends the state and leaves what it stands for in the line, for a semaphore that ends too.
+    /// Ends the state and leaves its request where it is, in the line or among those ended, as the semaphore ends too.
     pub fn lose(self) {
         let Acquire {
             of: _,

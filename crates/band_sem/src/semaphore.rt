@@ -55,7 +55,7 @@ impl Semaphore {
         self.store.number()
     }
 
-    /// How many may be taken without waiting: none while a request waits.
+    /// How many may be taken without waiting: none while a request waits. Where it is closed, only a drain takes them.
     pub fn available_permits(&self) -> u64
         ensures count { result ≡ available self.now.line }
         ensures lawful { IsLawful self.now }
@@ -226,8 +226,9 @@ impl Semaphore {
         p.lose();
     }
 
-    /// Closes it: each request that waits is ended and is to be woken, in order, and polls and tries get nothing from
-    /// now on. What was granted or is held stays, and comes back as ever. It takes no memory.
+    /// Closes it: each request that waits is ended and is to be woken, in order, and its next poll answers `Closed`.
+    /// First polls answer that too from now on, and tries get nothing. What was granted or is held stays, and comes back
+    /// as ever. It takes no memory.
     pub fn close<L: Ledger>(&mut self, steps: &mut Steps<L>)
         ensures state { IsLike (shut self.old) self.new }
         // Where it was closed before, nothing changes.

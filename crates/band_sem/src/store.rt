@@ -99,7 +99,7 @@ impl Store {
         self.closed
     }
 
-    /// How many may be taken without waiting.
+    /// How many may be taken without waiting; where it is closed, by a drain alone.
     pub(crate) fn available(&self) -> u64
         requires { IsSound self.now }
         ensures { result ≡ available (line_in self.now) }

@@ -59,7 +59,7 @@ abbrev pub EntersIn : Result Entrance AllocError → ℕ → ℕ → Type 0
 EntersIn (Ok (Joined slot)) before after = Visits 1 2 before after
 EntersIn result before after = after ≡ before
 
--- a later poll, which answers how many permits it takes if it was granted
+-- a later poll: of a granted one it answers how many permits it takes, and one that was ended hears of it
 abbrev pub PollsSlot : ℕ → ℕ → SemaphoreState → Found → SemaphoreState → Type 0
 PollsSlot slot waker old (Granted size) new =
     (entry_named (is_slot slot) old.ended ≡ None)
