@@ -38,24 +38,10 @@ entries_of nodes = map entry_of (requests_of nodes)
 abbrev counts : Node → ℕ
 counts node = cond (is_debt node) 1 0
 
--- Nobody is ended yet, and one goes on after another.
-pub ends-none : (row : RowState) (visits : ℕ) → EndsFirst row row visits visits
-ends-none row visits = record {
-  gone = [];
-  nodes = refl;
-  word = refl;
-  granted = refl;
-  wakes = sym (append-nil row.wakes);
-  ended = subst (λ es. IsPermutation es (ended_of row.list)) (sym (append-nil (ended_of row.list))) (IsPermutation-refl (ended_of row.list));
-  room = λ some. absurd (omega (arith, some));
-  spare = omega arith;
-  no_fewer = omega arith;
-  no_more = omega arith;
-}
-
 requests-append : (xs ys : List Node) → requests_of (xs ++ ys) ≡ requests_of xs ++ requests_of ys
 requests-append xs ys = filter_map-append request_of xs ys
 
+-- one after another
 pub ends-then : (a b c : RowState) (s t u : ℕ) → EndsFirst a b s t → EndsFirst b c t u → EndsFirst a c s u
 ends-then a b c s t u h k = record {
   gone = h.gone ++ k.gone;

@@ -416,25 +416,6 @@ module _ (row : RowState) (sound : IsRow row) (id : ℕ) where
         by_link true linked = waits (linked_stands asks linked)
         by_link false out = detached_stands out
 
-    -- and it is found under its size
-    pub request-size : HasRequest id row → entry_named (is_slot id) (asked row) ≡ Some (entry_at id node.size)
-    request-size asks = by_stand (request-stands asks)
-      where
-        unended : entry_named (is_slot id) (ended_of row.list) ≡ None
-            → entry_named (is_slot id) (requests (line_of (part row))) ≡ Some (entry_at id node.size) → entry_named (is_slot id) (asked row) ≡ Some (entry_at id node.size)
-        unended none found = asked_found row id ∙ ap₂ (λ (x y : Option (Entry ℕ)). option_or x y) none found
-
-        by_stand : Stands row id node → entry_named (is_slot id) (asked row) ≡ Some (entry_at id node.size)
-        by_stand (was_granted stands) =
-            unended stands.none_ended
-            (requests_found row id ∙ ap (λ found. option_or found (option_map entry_for (find (is_request (is_slot id)) (linked_nodes row.list)))) stands.granted)
-        by_stand (waits stands) =
-            unended stands.none_ended
-            (requests_found row id
-            ∙ ap₂ (λ found waiting. option_or found (option_map entry_for waiting)) stands.not_granted (linked-request row.list id here stands.linked stands.waits))
-        by_stand (was_ended stands) =
-            asked_found row id ∙ ap (λ found. option_or found (entry_named (is_slot id) (requests (line_of (part row))))) stands.ended
-
   -- nothing has the slot, so no request has it
   pub request-none : waiter_at id row.list ≡ None → entry_named (is_slot id) (asked row) ≡ None
   request-none vacant =

@@ -123,16 +123,7 @@ module _ (part : PartialLine) (first : Node) (rest : List Node) (nodes : part.no
           (sum_by-cons share_of (record first { waker = Some waker }) rest) (sum_by-cons owed_by (record first { waker = Some waker }) rest)
           (sum_by-cons share_of (given part.word (record first { waker = Some waker })) rest) (sum_by-cons owed_by (given part.word (record first { waker = Some waker })) rest) h
 
--- Nobody is served yet, and one goes on after another.
-pub serves-none : (part : PartialLine) (visits : ℕ) → Serves part part visits visits
-serves-none part visits = record {
-  gives = alike_parts-itself (give_out part);
-  wakes = omega arith;
-  debts = omega arith;
-  no_fewer = omega arith;
-  no_more = omega arith;
-}
-
+-- one after another
 pub serves-then : (a b c : PartialLine) (s t u : ℕ) → Serves a b s t → 0 < b.word → Serves b c t u → Serves a c s u
 serves-then a b c s t u h some k = record {
   gives = alike_parts-then _ _ _ h.gives k.gives;

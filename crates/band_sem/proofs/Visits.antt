@@ -67,14 +67,6 @@ pays-given_back n old new like few = pays old new (settles-like (give_back n old
 pub pays-released : (n : ℕ) (old new : SemaphoreState) {before after : ℕ} → IsLike (released n old) new → FewVisits old new before after → Pays (burden old) (burden new) before after
 pays-released n old new like few = pays old new (settles-like (give_back n old.line) (settle_from-counts _ old.line.waiting old.line.granted old.line.wakes) like.line.waiting like.line.wakes) few
 
--- all that wait are ended, and each is woken
-pub pays-shut : (old new : SemaphoreState) {before after : ℕ} → IsLike (shut old) new → FewVisits old new before after → Pays (burden old) (burden new) before after
-pays-shut old new like few =
-    let w = ap length like.line.waiting in
-    let k = ap length like.line.wakes ∙ length-append old.line.wakes _ in
-    let all = length-map old.line.waiting (λ (x : Waiting ℕ). x.waker) in
-    pays old new (record { all = omega (arith, w, k, all); more = omega (arith, k) }) few
-
 -- without a request fewer wait
 settles-without : (old : SemaphoreState) (slot : ℕ) (found : _) {new : SemaphoreState} → new.line.waiting ≡ (settle (withdraw found (is_slot slot) old.line)).waiting
     → new.line.wakes ≡ (settle (withdraw found (is_slot slot) old.line)).wakes → Settles old new
