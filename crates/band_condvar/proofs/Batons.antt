@@ -18,7 +18,7 @@ use Rattle.band_condvar.specs.declared.place.Place.TheVariants.{Queued, Chosen, 
 use Rattle.band_condvar.specs.Batons.{baton_in, chosen_count, batons, ended, ended_while}
 use Rattle.band_condvar.specs.Condvar.{CondvarState, IsCondvar, place_at, is_queued, is_chosen, called, chosen_at, one_notified, released, all_notified, joined, without}
 use Rattle.band_condvar.specs.Waits.{Stage, Enqueue, Registered, Reacquiring, Finished, Monitor, Leaves, PollsPlace, PollsAt, Acquires, has_baton, uncalled, cancelled}
-use Rattle.band_condvar.proofs.Lines.{is_in, in_first}
+use Rattle.band_line.proofs.Leaving.{is_in, in_first}
 
 -- A slot is written.
 in_range : (slots : List (Option Place)) (slot : ℕ) (place : Place) → get_or slots slot None ≡ Some place → slot < length slots

@@ -1,5 +1,4 @@
 mod Batons
-mod Lines
 mod Order
 mod Queues
 mod Requests

@@ -4,14 +4,13 @@ use Rattle.std.specs.Prelude.{◌==◌, flat_map}
 use Rattle.std.specs.Option.{option_map}
 use Rattle.std.proofs.Math.Seq.{map-set_same}
 use Rattle.std.proofs.lemmas.Bool.Decides.{nat_tests}
-use Rattle.std.proofs.lemmas.List.{set-set}
 use Rattle.band_base.specs.declared.waker.Waker.{Waker}
 use Rattle.band_line.specs.Arena.{arena_map}
-use Rattle.band_line.specs.WaitList.{WaitListState, IsWaitList, IsUnlinked, waiter_at, is_linked, first_waiter, detached, unlinked, removed_waiter}
+use Rattle.band_line.specs.WaitList.{WaitListState, IsWaitList, IsUnlinked, waiter_at, is_linked, first_waiter, unlinked}
 use Rattle.band_condvar.specs.declared.place.Place.{Place}
 use Rattle.band_condvar.specs.declared.place.Place.TheVariants.{Queued, Chosen, Released}
 use Rattle.band_condvar.specs.Condvar.{CondvarState, StaysAt, AllStay, place_at, is_queued, wakers_of, released, all_notified}
-use Rattle.band_condvar.proofs.Lines.{first-split}
+use Rattle.band_line.proofs.Leaving.{first-split}
 
 -- exactly those in line are queued
 abbrev pub AreQueued : WaitListState Place → Type 0
@@ -78,14 +77,3 @@ nobody-queued state queued none =
     at (x ∷ xs) none =
         ap (λ y. y ∷ map (option_map released) xs) (same x (none 0))
         ∙ ap (λ ys. x ∷ ys) (at xs (λ slot. none (suc slot)))
-
--- a slot that is vacated, whatever stood there last
-pub vacated : (line after before : WaitListState Place) (slot : ℕ) (place : Place)
-    → line ≡ unlinked slot place before → after ≡ removed_waiter slot line
-    → after ≡ removed_waiter slot (detached slot before)
-vacated line after before slot place is taken =
-    taken ∙ ap (removed_waiter slot) is
-    ∙ ap (λ slots. record {
-      nodes = record { slots = slots; vacated = slot ∷ before.nodes.vacated; spare = before.nodes.spare + 1 };
-      linked = (detached slot before).linked;
-    }) (set-set before.nodes.slots slot (Some place) None)

@@ -4,19 +4,18 @@ use Rattle.std.specs.Prelude.{◌==◌, flat_map, Result, Ok}
 use Rattle.std.specs.Option.{option_map}
 use Rattle.std.proofs.Math.Seq.{map-set_same}
 use Rattle.std.proofs.lemmas.Bool.Decides.{nat_tests}
-use Rattle.std.proofs.lemmas.List.{set-set}
 use Rattle.band_base.specs.declared.poll.Poll.{Poll}
 use Rattle.band_base.specs.declared.poll.Poll.TheVariants.{Ready}
 use Rattle.band_base.specs.declared.poll.PollError.{PollError}
 use Rattle.band_base.specs.declared.waker.Waker.{Waker}
 use Rattle.band_line.specs.Arena.{KeepsOthers, arena_map}
-use Rattle.band_line.specs.WaitList.{WaitListState, IsWaitList, IsUnlinked, waiter_at, is_linked, first_waiter, detached, unlinked, removed_waiter}
+use Rattle.band_line.specs.WaitList.{WaitListState, IsWaitList, IsUnlinked, waiter_at, is_linked, first_waiter, unlinked, removed_waiter}
 use Rattle.band_event.specs.declared.place.Place.{Place}
 use Rattle.band_event.specs.declared.place.Place.TheVariants.{Queued, Called}
 use Rattle.band_event.specs.Event.{QueueState, EventState, IsEvent, IsQueue, place_at, is_queued, is_called, wakers_of, all_called, Polls, LaterPoll}
 use Rattle.band_signal.specs.Waits.{Life, Registered}
 use Rattle.band_event.specs.Kept.Queue.{IsKept}
-use Rattle.band_event.proofs.Lines.{first-split}
+use Rattle.band_line.proofs.Leaving.{first-split}
 
 -- exactly those in line are queued, seen at one slot and at the others
 by_slot : (line : WaitListState Place) (slot : ℕ)
@@ -104,17 +103,6 @@ nobody-queued queue queued none =
     at (x ∷ xs) none =
         ap (λ y. y ∷ map (option_map (λ (place : Place). Called)) xs) (same x (none 0))
         ∙ ap (λ ys. x ∷ ys) (at xs (λ slot. none (suc slot)))
-
--- a slot that is vacated, whatever stood there last
-pub gone : (line after : WaitListState Place) (before : WaitListState Place) (slot : ℕ) (place : Place)
-    → line ≡ unlinked slot place before → after ≡ removed_waiter slot line
-    → after ≡ removed_waiter slot (detached slot before)
-gone line after before slot place is taken =
-    taken ∙ ap (removed_waiter slot) is
-    ∙ ap (λ slots. record {
-      nodes = record { slots = slots; vacated = slot ∷ before.nodes.vacated; spare = before.nodes.spare + 1 };
-      linked = (detached slot before).linked;
-    }) (set-set before.nodes.slots slot (Some place) None)
 
 -- one that was queued is counted no more, once it is gone
 pub kept-queued : (old : QueueState) (line after : WaitListState Place) (slot waiting spare : ℕ) (waker : Waker)

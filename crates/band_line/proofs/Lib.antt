@@ -1,6 +1,7 @@
 mod ArenaLemmas
 mod ArenaMaps
 mod Chains
+pub mod Leaving
 mod LineLemmas
 mod Linking
 mod NodeValues

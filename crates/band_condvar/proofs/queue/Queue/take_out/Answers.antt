@@ -1,7 +1,7 @@
 use Rattle.std.proofs.Common.{ap, ◌∙◌}
 use Rattle.band_condvar.specs.Condvar.{without}
 use Rattle.band_condvar.specs.declared.place.Place.TheVariants.{Released}
-use Rattle.band_condvar.proofs.Queues.{vacated}
+use Rattle.band_line.proofs.Leaving.{vacated}
 use Rattle.band_condvar.proofs.queue.Queue.take_out.Goals as goal
 
 pub returns-in-Queued-clause-state : goal.returns-in-Queued-clause-state

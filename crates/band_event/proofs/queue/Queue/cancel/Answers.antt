@@ -1,7 +1,8 @@
 use Rattle.std.proofs.Common.{Some, ap, ◌∙◌}
 use Rattle.band_event.specs.Event.{without}
 use Rattle.band_event.specs.declared.place.Place.TheVariants.{Called}
-use Rattle.band_event.proofs.Queues.{gone, kept-queued, kept-called}
+use Rattle.band_line.proofs.Leaving.{vacated}
+use Rattle.band_event.proofs.Queues.{kept-queued, kept-called}
 use Rattle.band_event.proofs.queue.Queue.cancel.Goals as goal
 
 pub invariant_of-self : goal.invariant_of-self
@@ -21,6 +22,6 @@ invariant_of-self-in-Called g c =
 pub returns-in-Queued-clause-state : goal.returns-in-Queued-clause-state
 returns-in-Queued-clause-state g c =
     ap (λ line. record { line = line; wakes = c.self.inside.wakes.wakers })
-    (gone c.call-place.new.list c.remove_unlinked_waiter.new.self c.self.inside.list c.args.id Called
+    (vacated c.call-place.new.list c.remove_unlinked_waiter.new.self c.self.inside.list c.args.id Called
     c.call-place.ensures.state.state c.remove_unlinked_waiter.ensures.state)
     ∙ ap (without c.args.id) c.self.view_is

@@ -1,12 +1,21 @@
--- Lists of slots, of which each stands once.
-use Rattle.std.proofs.Common.{◌≡◌, ◌≢◌, refl, ℕ, List, [], ◌∷◌, ◌++◌, drop, slice_get, arith, ap, subst, Some, Bool, true, false, nat_eq}
+-- Lemmas on who leaves a line, for callers.
+use Rattle.std.proofs.Common.{◌≡◌, ◌≢◌, refl, ℕ, ◌+◌, List, [], ◌∷◌, ◌++◌, drop, slice_get, arith, ap, ◌∙◌, subst, Option, Some, None, Bool, true, false, nat_eq}
 use Rattle.std.specs.Prelude.{◌==◌, flat_map}
 use Rattle.std.specs.List.{IsDistinct, AllByRecursion, list_any}
 use Rattle.std.proofs.lemmas.Bool.Decides.{nat_tests}
+use Rattle.std.proofs.lemmas.List.{set-set}
 use Rattle.std.proofs.lemmas.List.Concat.{flat_map-cons}
+use Rattle.band_line.specs.WaitList.{WaitListState, detached, unlinked, removed_waiter}
 
-abbrev is_in : ℕ → List ℕ → Bool
+abbrev pub is_in : ℕ → List ℕ → Bool
 is_in id ids = list_any (λ other. other == id) ids
+
+pub in_first : (ids : List ℕ) (id : ℕ) → slice_get ids 0 ≡ Some id → is_in id ids ≡ true
+in_first [] id e = absurd (cc)
+in_first (x ∷ xs) id e =
+    let same : x ≡ id = cc in
+    let here : (x == id) ≡ true = grind (arith, nat_tests) in
+    rw here refl
 
 out_apart : (id : ℕ) (ids : List ℕ) → AllByRecursion (λ other. nat_eq id other ≡ false) ids → is_in id ids ≡ false
 out_apart id [] apart = refl
@@ -42,3 +51,14 @@ first-split f g slot same (x ∷ xs) once first =
     let out : is_in slot xs ≡ false = subst (λ k. is_in k xs ≡ false) here (out_apart x xs once.0) in
     let others = agree_off f g slot same xs out in
     rw (flat_map-cons g x xs) (rw here (ap (λ ys. g slot ++ ys) others))
+
+-- a slot that is vacated, whatever stood there last
+pub vacated : {T : Type 0} (line after before : WaitListState T) (slot : ℕ) (value : T)
+    → line ≡ unlinked slot value before → after ≡ removed_waiter slot line
+    → after ≡ removed_waiter slot (detached slot before)
+vacated line after before slot value is taken =
+    taken ∙ ap (removed_waiter slot) is
+    ∙ ap (λ slots. record {
+      nodes = record { slots = slots; vacated = slot ∷ before.nodes.vacated; spare = before.nodes.spare + 1 };
+      linked = (detached slot before).linked;
+    }) (set-set before.nodes.slots slot (Some value) None)
