@@ -3,11 +3,11 @@ use Rattle.std.proofs.Common.{◌≡◌, ◌≢◌, refl, ℕ, ◌+◌, ◌≤�
 use Rattle.std.specs.Option.{option_map, option_map_or}
 use Rattle.std.proofs.lemmas.Bool.{cases_eq}
 use Rattle.std.proofs.lemmas.List.{length_push, set-set}
-use Rattle.band_line.specs.Arena.{KeepsOthers, KeepsValues, ArenaState, arena_map, value_at, occupied_len, next_slot, inserted, with_value, removed}
+use Rattle.band_line.specs.Arena.{KeepsOthers, KeepsValues, ArenaState, value_at, occupied_len, next_slot, inserted, with_value, removed}
 use Rattle.band_line.specs.WaitList.{WaitListState, IsWaitList, is_linked, first_waiter, waiter_at, pushed_front, pushed_back, detached, with_waiter, removed_waiter}
 use Rattle.band_line.specs.Links.{with_prev, with_next}
 use Rattle.band_line.specs.Slots.{chain}
-use Rattle.band_line.specs.Store.{changed_at, with_node_value, node_value, node_values}
+use Rattle.band_line.specs.Store.{changed_at, with_node_value, node_values}
 use Rattle.band_line.specs.Line.{Node, first_or, IsDoublyLinked, links_in, links_at, linked_len, linked_of, list_of, IsWaitLine}
 use Rattle.band_line.specs.Line.{with_node_prev, with_node_next, asked, pointed_next, pointed_prev, closed, closed_front, closed_back, gap_visits}
 use Rattle.band_line.specs.declared.link.Between.{Between}
@@ -17,7 +17,7 @@ use Rattle.band_line.proofs.NodeValues.{value_is, len_is, shows_value, held, nod
 use Rattle.band_line.proofs.Linking.{PointsNext, PointsPrev, Relinks, HasNeighbors, neighbors, front_linked, without, without-IsOff, IsOff-is_in}
 use Rattle.band_line.proofs.Linking.{IsDoublyLinked-same, AreApart-IsDistinct, joins_back, joins_front, leaves, IsChain-AreLinked}
 use Rattle.band_line.proofs.ArenaMaps.{value_at-with_value, value_at-inserted_other, value_at-changed_at, value_at-changed_at_other, count-with_value, count-removed, count-inserted}
-use Rattle.band_line.proofs.ArenaMaps.{value_at-arena_map, occupied_len-arena_map, next_slot-arena_map, arena_map-inserted, arena_map-with_value, arena_map-removed, arena_map-changed_at}
+use Rattle.band_line.proofs.ArenaMaps.{next_slot-arena_map, arena_map-inserted, arena_map-removed, arena_map-changed_at}
 
 -- two nodes at most stand beside one
 pub gap_visits-le : (gap : Option Between) → gap_visits gap ≤ 2

@@ -1,8 +1,8 @@
 -- What the values of the nodes of a store come to, once a node changes.
-use Rattle.std.proofs.Common.{◌≡◌, ◌≢◌, refl, ℕ, ◌+◌, ap, sym, ◌∙◌, Option, Some, None, is_some, IsSome}
-use Rattle.std.specs.Option.{option_map, option_map_or}
+use Rattle.std.proofs.Common.{◌≡◌, refl, ℕ, ap, sym, ◌∙◌, Option, Some, None, is_some, IsSome}
+use Rattle.std.specs.Option.{option_map_or}
 use Rattle.band_line.specs.Arena.{ArenaState, KeepsOthers, KeepsValues, value_at, occupied_len, with_value}
-use Rattle.band_line.specs.Store.{node_value, node_values, changed_at, with_node_value}
+use Rattle.band_line.specs.Store.{node_value, node_values, changed_at}
 use Rattle.band_line.specs.declared.store.Node.{Node}
 use Rattle.band_line.proofs.ArenaMaps.{value_at-arena_map, occupied_len-arena_map, arena_map-with_value}
 

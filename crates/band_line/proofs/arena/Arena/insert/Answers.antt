@@ -1,6 +1,4 @@
 use Rattle.std.proofs.Common.{ap, sym, ◌∙◌, ◌+◌}
-use Rattle.band_line.specs.Arena.{inserted}
-use Rattle.band_line.specs.Store.{node_values}
 use Rattle.band_line.proofs.ArenaMaps.{arena_map-inserted}
 use Rattle.band_line.proofs.NodeValues.{len_is, others_shown, values_shown}
 use Rattle.band_line.proofs.SoundArena.{sound_mapped}

@@ -1,7 +1,7 @@
-use Rattle.std.proofs.Common.{None, IsSome, arith, get_or, map, is_some, ap, sym, ◌∙◌}
+use Rattle.std.proofs.Common.{None, IsSome, arith, get_or, map, is_some, ap, ◌∙◌}
 use Rattle.band_line.specs.Slots.{node_of}
 use Rattle.band_line.specs.Store.{node_value}
-use Rattle.band_line.specs.Line.{links_in, asked}
+use Rattle.band_line.specs.Line.{asked}
 use Rattle.band_line.proofs.ArenaLemmas.{occupied_within, found_node, changes}
 use Rattle.band_line.proofs.nodes.Store+Links+T.ask.Goals as goal
 
@@ -31,8 +31,7 @@ returns-clause-asked g c =
     let here : IsSome (get_or (map node_of c.self.inside.slots.items) c.index.result None) = rw c.index.ensures (rw (← c.self.view_is) at c.requires.here) in
     let found = found_node c.self.inside.slots.items c.index.result c.index_mut.result.now here c.index_mut.ensures.value in
     let answered = c.ask.ensures.asked in
-    rw (← c.self.view_is, ← c.index.ensures)
-    (
+    rw (← c.self.view_is, ← c.index.ensures) (
       answered.0,
       rw found answered.1,
       (changes c.index.result c.ask.new.self (asked (is_some c.ask.result) answered.0) c.self.invariant here c.index_mut.ensures.value answered.2).1,

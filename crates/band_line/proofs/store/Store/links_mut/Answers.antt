@@ -25,7 +25,7 @@ returns g c =
       (
         refl,
         λ w. rw (← c.self.view_is, ← c.index.ensures)
-        (changes c.index.result (with_slot_links w slot) (with_node_links w) c.self.invariant here c.index_mut.ensures.value (with_slot_links-node_of w slot)).1,
+            (changes c.index.result (with_slot_links w slot) (with_node_links w) c.self.invariant here c.index_mut.ensures.value (with_slot_links-node_of w slot)).1,
       ),
       record {
         lends = tt;

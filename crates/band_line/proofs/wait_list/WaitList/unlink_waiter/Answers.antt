@@ -1,4 +1,4 @@
-use Rattle.std.proofs.Common.{◌≡◌, ℕ, ◌+◌, ◌<◌, arith, refl, sym, ap, ◌∙◌}
+use Rattle.std.proofs.Common.{◌≡◌, ◌+◌, ◌<◌, arith, refl, sym, ap, ◌∙◌}
 use Rattle.band_line.specs.Arena.{occupied_len}
 use Rattle.band_line.specs.WaitList.{WaitListState}
 use Rattle.band_line.specs.Line.{HasAsManyNodes, list_in, IsMade}
