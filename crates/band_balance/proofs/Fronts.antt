@@ -292,6 +292,12 @@ module _ {K : Type 0} (same : K → K → Bool) (told : TellsApart same) where
     told-open shuts line ended woken is =
         subst (λ (es : List (Entry (Tag K))). line.wakes ≡ wakers (hear es line.granted)) (sym is) (woken.0 ∙ sym (ap wakers (all_told object.ended line.granted)))
 
+    nobody-waits : (back : Effect (Tag K)) (line : Line (Tag K)) → Wakes back line → object.line.waiting ≡ [] → line.wakes ≡ []
+    nobody-waits quiet line woken none = woken.0
+    nobody-waits (grants means) line woken none =
+        woken.0 ∙ ap (λ (ws : List (Waiting (Tag K))). wakers (filter (λ (w : Waiting (Tag K)). stands_in same w.name.name line.granted) ws)) none
+    nobody-waits shuts line woken none = woken.0 ∙ ap wakers none
+
     pub told-by : {back : Effect (Tag K)} {came gone : ℕ} {who : Option K} {line : Line (Tag K)} {held : List (Entry (Tag K))} {closed : Bool} {ended : List (Entry (Tag K))}
         → Becomes same object back came gone who line held closed ended → line.wakes ≡ wakers (hear ended line.granted)
     told-by {back} {line = line} {ended = ended} by = go object.closed orderly.closing
