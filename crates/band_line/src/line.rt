@@ -1,5 +1,5 @@
 //! Nodes of which some are linked to a line.
-ghost use Rattle.std.specs.Prelude.{◌≡◌, ◌≢◌, ℕ, ◌+◌, ◌*◌, ◌<◌, ◌≤◌, ◌↔◌, false, true, [], Some, None, IsTrue, IsSome, IfSome, IfNone, min, max, OnOk, OnErr, IsOk, IsErr, IfOk, MatchOption, is_some, if◌then◌else◌};
+ghost use Rattle.std.specs.Prelude.{◌≡◌, ◌≢◌, ℕ, ◌+◌, ◌*◌, ◌<◌, ◌≤◌, ◌↔◌, false, true, [], Some, None, IsTrue, IsSome, IfSome, IfNone, min, max, OnOk, OnErr, IsOk, IsErr, IfOk, MatchOption, is_some, option_copied, if◌then◌else◌};
 ghost use Rattle.std.specs.Option.{ForSome};
 ghost use Rattle.std.specs.Fn.{FnOnceTakesAtMut};
 ghost use Rattle.std.specs.Borrow.{sem};
@@ -184,6 +184,13 @@ impl<T> Line<T> {
         self.nodes.point_next(&mut self.front, prev, new, steps);
         self.back = new;
         id
+    }
+
+    pub(crate) fn waiter<L: Ledger>(&self, id: SlotId, steps: &mut Steps<L>) -> Option<&T>
+        ensures value { option_copied result ≡ waiter_at id self.now }
+        ensures visits { steps.new ≡ steps.old + 1 }
+    {
+        self.nodes.get(id, steps)
     }
 
     pub(crate) fn waiter_mut<L: Ledger>(&mut self, id: SlotId, steps: &mut Steps<L>) -> &mut T

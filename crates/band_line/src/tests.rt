@@ -150,7 +150,7 @@ fn middle_leaves<L: Ledger, R: Abort>(
     list.push_back(3, steps);
     assert!(rt; stays(&mut list, middle, steps));
     assert!(rt; first_stays(&mut list, steps));
-    assert!(rt; list.has(middle));
+    assert_eq!(rt; list.waiter(middle, steps).copied(), Some(2));
     assert_eq!(rt; leaves(&mut list, middle, steps), (2, 2));
     list.reserve(1)?;
     list.push_back(4, steps);

@@ -1,5 +1,5 @@
 //! The wait list: waiters in a line, which stay readable once they are detached.
-ghost use Rattle.std.specs.Prelude.{◌≡◌, ◌≢◌, ℕ, ◌+◌, ◌*◌, ◌<◌, ◌≤◌, ◌↔◌, false, true, [], Some, None, IsTrue, IsSome, IfSome, IfNone, min, max, OnOk, OnErr, IsOk, IsErr, MatchOption, is_some, if◌then◌else◌};
+ghost use Rattle.std.specs.Prelude.{◌≡◌, ◌≢◌, ℕ, ◌+◌, ◌*◌, ◌<◌, ◌≤◌, ◌↔◌, false, true, [], Some, None, IsTrue, IsSome, IfSome, IfNone, min, max, OnOk, OnErr, IsOk, IsErr, MatchOption, is_some, option_copied, if◌then◌else◌};
 ghost use Rattle.std.specs.Option.{ForSome};
 ghost use Rattle.std.specs.Fn.{FnOnceTakesAtMut};
 ghost use Rattle.std.specs.Borrow.{sem, Lends};
@@ -200,7 +200,19 @@ impl<T> WaitList<T> {
         }
     }
 
-    /// The value of a node, linked or detached.
+    /// The value of a node, linked or detached, if there is one.
+    pub fn waiter<L: Ledger>(&self, id: WaiterId, steps: &mut Steps<L>) -> Option<&T>
+        ensures value { option_copied result ≡ waiter_at id self.now }
+        ensures visits { Visits 0 1 steps.old steps.new }
+        ensures counted { IsSome (waiter_at id self.now) → steps.new ≡ steps.old + 1 }
+    {
+        match &self.line {
+            Some(line) => line.waiter(id.slot, steps),
+            None => None,
+        }
+    }
+
+    /// The value of a node, linked or detached, for writing.
     pub fn waiter_mut<L: Ledger>(&mut self, id: WaiterId, steps: &mut Steps<L>) -> &mut T
         requires { IsSome (waiter_at id self.old) }
         ensures* writes_back { sem 𝓛 (lends_waiter T.row self.entry id result) }

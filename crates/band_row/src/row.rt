@@ -1,11 +1,11 @@
 //! The row: what is available, the nodes, and the wakers to wake.
-ghost use Rattle.std.specs.Prelude.{◌≡◌, ◌+◌, ◌*◌, ◌<◌, ◌≤◌, ◌↔◌, ◌≤ℤ◌, pos, neg_ℤ, length, [], Some, IsSome, IfSome, IfNone, OnOk, OnErr, MatchOption, None};
-ghost use Rattle.band_balance.specs.Line.{total, u64_max};
+ghost use Rattle.std.specs.Prelude.{◌≡◌, ◌+◌, ◌*◌, ◌<◌, ◌≤◌, ◌↔◌, ◌≤ℤ◌, pos, neg_ℤ, length, [], Some, IsSome, IfSome, IfNone, OnOk, OnErr, MatchOption, None, is_some};
+ghost use Rattle.band_balance.specs.Line.{total, u64_max, entry_named};
 ghost use Rattle.band_line.specs.Visits.{Visits};
 ghost use Rattle.band_line.specs.WaitList.{IsWaitList, waiter_at, first_waiter};
 ghost use Rattle.band_partial.specs.PartialLine.{AreAlikeParts, IsSettled, debts, free_of, requests_of};
 ghost use Rattle.band_partial.specs.Moves.{open_part, draw, give_out, pass_on};
-ghost use Rattle.band_row.specs.Row.{IsRow, part, ended_of, HasRequest, Holds, Enqueues, Owes, SameEnded, PollsNode, Cancels, EndsAll, TakesWake, served};
+ghost use Rattle.band_row.specs.Row.{is_slot, IsRow, part, ended_of, HasRequest, Holds, Enqueues, Owes, SameEnded, PollsNode, Cancels, EndsAll, TakesWake, served};
 ghost use Rattle.band_row.specs.Kept.Serves.{Ends, EndsNode, EndsFirst, Serves, ServesNode, IsGone};
 
 use crate::WaitNode;
@@ -146,6 +146,15 @@ impl Row {
         self.list.reserve(1)?;
         let needed = n - mem::replace(&mut self.word, 0);
         Ok(self.list.push_front(WaitNode::debt(n, needed), steps))
+    }
+
+    /// Whether a request was granted.
+    pub fn is_granted<L: Ledger>(&self, id: WaiterId, steps: &mut Steps<L>) -> bool
+        requires here { HasRequest id self.now }
+        ensures granted { result ≡ is_some (entry_named (is_slot id) (part self.now).granted) }
+        ensures visits { steps.new ≡ steps.old + 1 }
+    {
+        matches!(self.list.waiter(id, steps), Some(node) if node.needed == 0)
     }
 
     /// A request that was granted or ended leaves. One that waits leaves its new waker.
