@@ -279,12 +279,12 @@ module _ (list : WaitListState WaitNode) (id : ℕ) {node : WaitNode} (here : wa
   granted_at : entry_named (is_slot id) (granted_of list) ≡ option_map (entry_at id) (granted_to node)
   granted_at = entries-found granted_to id list.nodes.slots ∙ ap (λ found. option_map (entry_at id) (size_by granted_to found)) here
 
-  granted_none : 0 < node.needed → entry_named (is_slot id) (granted_of list) ≡ None
+  pub granted_none : 0 < node.needed → entry_named (is_slot id) (granted_of list) ≡ None
   granted_none some =
       let more : (node.needed == 0) ≡ false = grind (arith, nat_tests) in
       granted_at ∙ ap (λ b. option_map (entry_at id) (cond b (Some node.size) None)) more
 
-  granted_some : node.needed ≡ 0 → entry_named (is_slot id) (granted_of list) ≡ Some (entry_at id node.size)
+  pub granted_some : node.needed ≡ 0 → entry_named (is_slot id) (granted_of list) ≡ Some (entry_at id node.size)
   granted_some none = granted_at ∙ ap (λ needed. option_map (entry_at id) (cond (needed == 0) (Some node.size) None)) none
 
   ended_as : {b : Bool} → node.ended ≡ b → entry_named (is_slot id) (ended_of list) ≡ option_map (entry_at id) (cond b (Some node.size) None)

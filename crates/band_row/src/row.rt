@@ -154,7 +154,10 @@ impl Row {
         ensures granted { result ≡ is_some (entry_named (is_slot id) (part self.now).granted) }
         ensures visits { steps.new ≡ steps.old + 1 }
     {
-        matches!(self.list.waiter(id, steps), Some(node) if node.needed == 0)
+        match self.list.waiter(id, steps) {
+            Some(node) => node.needed == 0,
+            None => unreachable!(),
+        }
     }
 
     /// A request that was granted or ended leaves. One that waits leaves its new waker.
