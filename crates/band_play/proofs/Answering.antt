@@ -26,7 +26,7 @@ pub record SoFar (limit left : ℕ) (playing : Playing) (first last before after
   pub played : HasPlayed given playing before after
 
 -- after one more piece
-pub so_far_more : (limit left fewer : ℕ) (piece cut : List ℕ) (old new : Playing) (first mid last before between after : Option (List ℕ)) → SoFar limit left old first mid before between
+abbrev pub so_far_more : (limit left fewer : ℕ) (piece cut : List ℕ) (old new : Playing) (first mid last before between after : Option (List ℕ)) → SoFar limit left old first mid before between
     → Consumes mid last piece → length piece ≤ left → fewer + length piece ≡ left → cut ≡ take left piece → PlaysPiece cut old new between after → SoFar limit fewer new first last before after
 so_far_more limit left fewer piece cut old new first mid last before between after q gives size rest is plays =
     let P : List ℕ → Type 0 = λ given. HasPlayed given new before after in
@@ -44,7 +44,7 @@ all_written given playing before after q =
     subst P (sym (append-nil q.front) ∙ ap (λ t. q.front ++ t) (sym q.emptied) ∙ q.run.text) q.added
 
 -- what was given ends within the limit
-within_limit : (limit left : ℕ) (given : List ℕ) → length given + left ≡ limit → take limit given ≡ given
+pub within_limit : (limit left : ℕ) (given : List ℕ) → length given + left ≡ limit → take limit given ≡ given
 within_limit limit left given size = take_all limit given (omega arith)
 
 pub given_within : (limit left : ℕ) (given piece : List ℕ) → length given + left ≡ limit → given ++ take left piece ≡ take limit (given ++ piece)

@@ -37,7 +37,7 @@ transcript_from-append state (call ∷ first) second =
     ap (λ text. text_after call state ++ text) (transcript_from-append (step call state).state first second)
     ∙ sym (append_assoc (text_after call state) (transcript_from (step call state).state first) (transcript_from (state_from (step call state).state first) second))
 
-length_calls : (lines : List (List ℕ)) → AreCalls lines → length (calls_of lines) ≡ length lines
+pub length_calls : (lines : List (List ℕ)) → AreCalls lines → length (calls_of lines) ≡ length lines
 length_calls [] each = refl
 length_calls (line ∷ lines) each = go (call_of line) each.0 ∙ ap suc (length_calls lines each.1)
   where

@@ -25,7 +25,7 @@ pub run_nothing : (playing : Playing) → StandsFor playing.player [] → string
 run_nothing playing stands empty none zero = record { each = tt; count = zero; state = stands; text = empty; held = none }
 
 -- after a line that stands for a call
-line_run : (given front end : List ℕ) (call : Call) (old new : Playing) → HasRun given front old → HasNoNewline end → call_of (rest_of given ++ end) ≡ Some call
+pub line_run : (given front end : List ℕ) (call : Call) (old new : Playing) → HasRun given front old → HasNoNewline end → call_of (rest_of given ++ end) ≡ Some call
     → Tells call old.player new.player (string_bytes old.text) (string_bytes new.text) → new.lines ≡ old.lines + 1 → new.held ≡ [] → HasRun (given ++ (end ++ 10 ∷ [])) front new
 line_run given front end call old new run none is tells next emptied =
     let line = rest_of given ++ end in
@@ -84,10 +84,10 @@ pub record RunsUpTo (piece rest : List ℕ) (old new : Playing) : Type 0 where
   pub runs : RunsPiece None done old new
 
 -- what the held line and its end stand for, whatever bytes it came from
-abbrev EndsAs : Playing → List ℕ → Option Call → Type 0
+abbrev pub EndsAs : Playing → List ℕ → Option Call → Type 0
 EndsAs playing end call = (start : List ℕ) → playing.held ≡ take 112 start → call ≡ call_of (start ++ end)
 
-pub line_more : (piece rest end after : List ℕ) (call : Call) (old mid new : Playing) → RunsUpTo piece rest old mid → rest ≡ end ++ 10 ∷ after → HasNoNewline end
+abbrev pub line_more : (piece rest end after : List ℕ) (call : Call) (old mid new : Playing) → RunsUpTo piece rest old mid → rest ≡ end ++ 10 ∷ after → HasNoNewline end
     → EndsAs mid end (Some call) → Tells call mid.player new.player (string_bytes mid.text) (string_bytes new.text) → new.lines ≡ mid.lines + 1 → new.held ≡ [] → RunsUpTo piece after old new
 line_more piece rest end after call old mid new q cut none ends tells next emptied = record {
   done = q.done ++ (end ++ 10 ∷ []);

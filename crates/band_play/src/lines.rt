@@ -1,7 +1,7 @@
 //! Lines: where they end, and the telling of their calls.
 ghost use Rattle.std.specs.Prelude.{◌≡◌, [], ◌∷◌, ◌++◌, OnOk, MatchOption, string_bytes, flat_map};
 ghost use Rattle.band_script.specs.Call.{ForReaders};
-ghost use Rattle.band_player.specs.Player.{wakers_left, Stays, Pays, load_of};
+ghost use Rattle.band_player.specs.Player.{wakers_left, Stays, Pays, VisitsJoiners, load_of};
 ghost use Rattle.band_rules.specs.Text.{wake_line};
 ghost use Rattle.band_play.specs.Lines.{HasNoNewline, Tells};
 
@@ -35,6 +35,7 @@ pub(crate) fn tell_call<L: Ledger>(
         (Tells call player.old player.new (string_bytes text.old) (string_bytes text.new)) }
     ensures quiet { OnOk result (wakers_left player.new ≡ []) }
     ensures visits { Pays (load_of player.old) (load_of player.new) steps.old steps.new }
+    ensures joins { OnOk result (VisitsJoiners call player.old steps.old steps.new) }
 {
     let reply = player.run(call, steps)?;
     push_reply(text, &reply)?;

@@ -3,7 +3,7 @@ ghost use Rattle.std.specs.Prelude.{◌≡◌, ◌+◌, ◌<◌, ◌≤◌, [], 
 ghost use Rattle.std.specs.Io.KnownBytes.{Appends};
 ghost use Rattle.band_base.specs.Device.{Rose, AppendsPrefix};
 ghost use Rattle.band_player.specs.Player.{wakers_left, load_of};
-ghost use Rattle.band_play.specs.Visits.{PaysLines, CountsPiece, CountsFault, count_lines};
+ghost use Rattle.band_play.specs.Visits.{PaysPiece, VisitsPiece};
 ghost use Rattle.band_play.specs.Playing.{HasRun, RunsPiece, PlaysPiece, StopsInPiece, AddsSome, answer_at_end};
 
 use crate::held::HeldLine;
@@ -59,9 +59,10 @@ impl Playing {
         ensures adds { AddsSome (D.written dst.old) (D.written dst.new) }
         ensures quiet { OnOk result (wakers_left self.new.player ≡ []) }
         ensures lines { OnOk result (self.new.lines ≤ self.old.lines + length piece.now) }
-        ensures visits { PaysLines (count_lines piece.now) self.old self.new steps.old steps.new }
-        ensures counted { OnOk result (self.new.lines ≡ self.old.lines + count_lines piece.now) }
-        ensures fault { IfErr result (λ fault. CountsFault fault self.old steps.old steps.new) }
+        ensures visits { PaysPiece piece.now self.old self.new steps.old steps.new }
+        // Also where the text of its lines was not written.
+        ensures joins { (result ≡ Err PlayFault.NoMemory → ⊥) →
+            VisitsPiece piece.now self.old steps.old steps.new }
         ensures never_fall { D.faults dst.old ≤ D.faults dst.new }
     {
         let malformed = self.run_lines(piece, steps)?;
@@ -83,9 +84,8 @@ impl Playing {
         ensures runs { IfOk result (λ malformed. RunsPiece malformed piece.now self.old self.new) }
         ensures quiet { OnOk result (wakers_left self.new.player ≡ []) }
         ensures lines { OnOk result (self.new.lines ≤ self.old.lines + length piece.now) }
-        ensures visits { PaysLines (count_lines piece.now) self.old self.new steps.old steps.new }
-        ensures counted { IfOk result (λ malformed.
-            CountsPiece malformed piece.now self.old self.new steps.old steps.new) }
+        ensures visits { PaysPiece piece.now self.old self.new steps.old steps.new }
+        ensures joins { OnOk result (VisitsPiece piece.now self.old steps.old steps.new) }
     {
         let mut rest = piece;
         while let Some((end, after)) = split_line(rest) {

@@ -1,5 +1,6 @@
 //! The summary of a bulk script: how many lines it has, and how many bytes and wakes its transcript has.
-ghost use Rattle.std.specs.Prelude.{◌≡◌, ◌≤◌, ◌++◌, length, IfOk, OnOk, IfErr, string_bytes};
+ghost use Rattle.std.specs.Prelude.{◌≡◌, ◌+◌, ◌≤◌, ◌++◌, length, IfOk, OnOk, IfErr, string_bytes};
+ghost use Rattle.band_rules.specs.Joined.{joiners_of};
 ghost use Rattle.band_rules.specs.Script.{transcript};
 ghost use Rattle.band_play.specs.Bulk.{bulk_calls, is_wake, wakes_in, summary_text, most_requests};
 ghost use Rattle.band_play.specs.Play.{SumsUp, end_of};
@@ -24,6 +25,7 @@ pub(crate) fn sum_up<D: Sink, L: Ledger>(
     requires most { n ≤ most_requests }
     ensures sums_up { SumsUp (bulk_calls n) result (end_of D.written D.faults dst.old dst.new) }
     ensures visits { AddsFew (length (bulk_calls n)) steps.old steps.new }
+    ensures joins { OnOk result (steps.old + joiners_of (bulk_calls n) ≤ steps.new) }
     ensures never_fall { D.faults dst.old ≤ D.faults dst.new }
 {
     let mut out = BytesOut::new(alloc);
@@ -47,6 +49,7 @@ fn play_bulk<L: Ledger>(
     ensures written { OnOk result (out.new ≡ out.old ++ transcript (bulk_calls n)) }
     ensures memory { IfErr result (λ fault. fault ≡ PlayFault.NoMemory) }
     ensures visits { AddsFew (length (bulk_calls n)) steps.old steps.new }
+    ensures joins { OnOk result (steps.old + joiners_of (bulk_calls n) ≤ steps.new) }
 {
     let script = bulk_script(alloc, n)?;
     play(alloc, &mut BytesIn::new(&script), out, LIMIT, steps)

@@ -15,3 +15,4 @@ pub mod Updates
 pub mod Polled
 pub mod Parted
 pub mod Visits
+pub mod Joining

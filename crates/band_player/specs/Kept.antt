@@ -1,13 +1,16 @@
 -- What the player keeps, and what it stands for.
-use Rattle.std.specs.Prelude.{◌≡◌, ◌≢◌, ◌<◌, ℕ, List, [], length, Option, Some, None, Result, Ok, slice_get}
+use Rattle.std.specs.Prelude.{◌≡◌, ◌≢◌, ◌+◌, ◌<◌, ◌≤◌, ℕ, List, [], length, Option, Some, None, Result, Ok, slice_get}
 use Rattle.std.specs.Prelude.{slice_index_or as get_or}
 use Rattle.band_balance.specs.Object.{Mode}
 use Rattle.band_base.specs.declared.refusal.Refusal.{Refusal}
 use Rattle.band_rules.specs.declared.reply.Reply.{Reply}
 use Rattle.band_rules.specs.declared.reply.Reply.TheVariants as replies
+use Rattle.band_rules.specs.Joined.{joiners_by}
+use Rattle.band_rules.specs.Plan.{plan}
 use Rattle.band_rules.specs.State.{State, Tag}
 use Rattle.band_rules.specs.Step.{step}
 use Rattle.band_script.specs.declared.call.Call.{Call}
+use Rattle.band_script.specs.declared.call.Call.TheVariants as calls
 use Rattle.band_player.specs.Moves.{object_place, offering}
 use Rattle.band_player.specs.Names.{thing_at}
 use Rattle.band_player.specs.Objects.{ObjectState}
@@ -56,6 +59,19 @@ DidWork reply = Unit {0}
 -- in every state that is stood for, the call does its work
 abbrev pub Works : Call → Table → Type 0
 Works call table = (state : State) → StandsFor table state → DidWork (step call state).reply
+
+-- the calls that make a request, and poll it first
+abbrev pub Asks : Call → Type 0
+Asks (calls.Ask made of n waker) = Unit {0}
+Asks (calls.Lock made of waker) = Unit {0}
+Asks (calls.Read made of waker) = Unit {0}
+Asks (calls.Write made of waker) = Unit {0}
+Asks call = ⊥
+
+-- in every state that is stood for: where the call puts a request into a line, that was visited
+abbrev pub VisitsJoiners : Call → Table → ℕ → ℕ → Type 0
+VisitsJoiners call table before after =
+    (state : State) → StandsFor table state → before + joiners_by (plan call state) ≤ after
 
 -- every state that was stood for still is
 abbrev pub Stays : Table → Table → Type 0

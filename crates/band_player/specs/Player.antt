@@ -35,6 +35,10 @@ Follows call old reply new = kept.Follows call old.table reply new.table
 abbrev pub Works : Call → Player → Type 0
 Works call player = kept.Works call player.table
 
+-- in each state that the player may have come to: where the call puts a request into a line, that was visited
+abbrev pub VisitsJoiners : Call → Player → ℕ → ℕ → Type 0
+VisitsJoiners call player before after = kept.VisitsJoiners call player.table before after
+
 -- it has come to what it had come to, whichever of its wakers are taken
 abbrev pub Stays : Player → Player → Type 0
 Stays old new = kept.Stays old.table new.table

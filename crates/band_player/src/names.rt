@@ -20,7 +20,7 @@ pub(crate) struct Names {
 }
 
 impl Names {
-    ghost use Rattle.std.specs.Prelude.{◌≡◌, ℕ, ◌-◌, ◌≤◌, ◌↔◌, List, None, Some, Err, IsSome, IfOk, OnOk, OnErr, IsOk, IsTrue, MatchResult, false, option_map};
+    ghost use Rattle.std.specs.Prelude.{◌≡◌, ℕ, ◌-◌, ◌<◌, ◌≤◌, ◌↔◌, List, None, Some, Ok, Err, IsSome, IfOk, OnOk, OnErr, IsOk, IsTrue, MatchResult, false, option_map};
     ghost use Rattle.band_balance.specs.Object.{Mode, Permit, Write, is_of};
     ghost use Rattle.band_sem.specs.Semaphore.{serves, taken};
     ghost use Rattle.band_sem.specs.Visits.{Pays, burden};
@@ -136,6 +136,7 @@ impl Names {
         ensures err { OnErr result (AreSame self.old self.new × (object.new ≡ object.old)) }
         ensures visits { Pays (burden (shares_of object.old)) (burden (shares_of object.new))
             steps.old steps.new }
+        ensures waits { result ≡ Ok Reply.Pending → steps.old < steps.new }
     {
         self.tokens.ask(object, want, name, waker, steps)
     }

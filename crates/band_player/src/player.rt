@@ -16,8 +16,8 @@ pub struct Player {
 }
 
 impl Player {
-    ghost use Rattle.std.specs.Prelude.{◌≡◌, [], ◌∷◌, IfOk, OnErr, IsOk, MatchOption};
-    ghost use Rattle.band_player.specs.Player.{StandsFor, Follows, Works, Stays, KeepsLaws, TakesNoMemory, wakers_left, load_of};
+    ghost use Rattle.std.specs.Prelude.{◌≡◌, [], ◌∷◌, IfOk, OnOk, OnErr, IsOk, MatchOption};
+    ghost use Rattle.band_player.specs.Player.{StandsFor, Follows, Works, Stays, KeepsLaws, TakesNoMemory, VisitsJoiners, wakers_left, load_of};
     ghost use Rattle.band_sem.specs.Visits.{Pays};
     ghost use Rattle.band_script.specs.Call.{ForReaders};
 
@@ -50,6 +50,7 @@ impl Player {
         ensures succeeds { TakesNoMemory call.now → IsOk result }
         ensures lawful { KeepsLaws self.new }
         ensures visits { Pays (load_of self.old) (load_of self.new) steps.old steps.new }
+        ensures joins { OnOk result (VisitsJoiners call.now self.old steps.old steps.new) }
     {
         self.run(call.copy(), steps)
     }
@@ -65,6 +66,7 @@ impl Player {
         ensures succeeds { TakesNoMemory call → IsOk result }
         ensures lawful { KeepsLaws self.new }
         ensures visits { Pays (load_of self.old) (load_of self.new) steps.old steps.new }
+        ensures joins { OnOk result (VisitsJoiners call self.old steps.old steps.new) }
     {
         self.table.run(self.alloc, call, steps)
     }

@@ -1,5 +1,5 @@
 //! What the player keeps: the names, and the objects by place.
-ghost use Rattle.std.specs.Prelude.{◌≡◌, ◌∷◌, [], IfOk, OnErr, Err, IsOk, MatchOption, MatchResult};
+ghost use Rattle.std.specs.Prelude.{◌≡◌, ◌<◌, ◌∷◌, [], IfOk, OnErr, Ok, Err, IsOk, MatchOption, MatchResult};
 ghost use Rattle.band_script.specs.Call.{ForReaders};
 ghost use Rattle.band_script.specs.declared.call.Call.TheVariants as calls;
 ghost use Rattle.band_player.specs.Names.{thing_at};
@@ -7,7 +7,7 @@ ghost use Rattle.band_player.specs.Moves.{mode_of, mergeable, make_call, ask_cal
 ghost use Rattle.band_sem.specs.Visits.{Pays};
 ghost use Rattle.band_player.specs.Player.{TakesNoMemory};
 ghost use Rattle.band_player.specs.Visits.{load};
-ghost use Rattle.band_player.specs.Kept.{StandsFor, IsSound, Follows, Stays, Answered, Wanting, Offered, offering_at, wakes_left};
+ghost use Rattle.band_player.specs.Kept.{StandsFor, IsSound, Asks, Follows, Stays, Answered, Wanting, Offered, offering_at, wakes_left};
 
 use crate::names::Names;
 use crate::object::{New, Object, Want};
@@ -102,6 +102,7 @@ impl Table {
         ensures wanting { OnErr result (Wanting (ask_call want made of.now waker.0) self.old self.new) }
         ensures visits { Pays (load self.old.objects.items) (load self.new.objects.items)
             steps.old steps.new }
+        ensures waits { result ≡ Ok Reply.Pending → steps.old < steps.new }
     {
         let place = match self.object_for(of, want) {
             Ok(place) => place,
@@ -392,6 +393,8 @@ impl Table {
         ensures succeeds { TakesNoMemory call → IsOk result }
         ensures visits { Pays (load self.old.objects.items) (load self.new.objects.items)
             steps.old steps.new }
+        // A new request that waits was visited.
+        ensures waits { Asks call → result ≡ Ok Reply.Pending → steps.old < steps.new }
     {
         match call {
             Call::Sem { made, n } => self.make(alloc, made, New::Semaphore(n)),

@@ -83,6 +83,7 @@ impl Token {
         ensures later { WasPolled self → IsOk result }
         ensures visits { Pays (burden (shares_of object.old)) (burden (shares_of object.new))
             steps.old steps.new }
+        ensures waits { IfOk result (λ polled. polled.1 ≡ Reply.Pending → steps.old < steps.new) }
     {
         let Token { any } = self;
         match (any, &mut object.primitive) {

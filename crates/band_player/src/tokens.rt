@@ -1,5 +1,5 @@
 //! Requests and holdings under their names. There is room for each before it is made.
-ghost use Rattle.std.specs.Prelude.{◌≡◌, ◌-◌, ◌≤◌, List, ℕ, None, Some, IfOk, OnOk, OnErr, IsTrue, is_some};
+ghost use Rattle.std.specs.Prelude.{◌≡◌, ◌-◌, ◌<◌, ◌≤◌, List, ℕ, None, Some, Ok, IfOk, OnOk, OnErr, IsTrue, is_some};
 ghost use Rattle.std.specs.Borrow.{sem};
 ghost use Rattle.std.specs.Option.{option_copied, option_copied_mut};
 ghost use Rattle.band_balance.specs.Object.{Permit, is_of};
@@ -107,6 +107,7 @@ impl Tokens {
         ensures err { OnErr result (object.new ≡ object.old) }
         ensures visits { Pays (burden (shares_of object.old)) (burden (shares_of object.new))
             steps.old steps.new }
+        ensures waits { result ≡ Ok Reply.Pending → steps.old < steps.new }
     {
         let room = BoxedToken::new(self.alloc)?;
         let Ok(Entry::Vacant(entry)) = self.map.entry(name) else {

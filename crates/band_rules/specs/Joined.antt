@@ -1,5 +1,6 @@
--- Who joined a line before whom: those that were granted from it before those that wait in it still.
-use Rattle.std.specs.Prelude.{ℕ, ◌+◌, ◌<◌, if◌then◌else◌, Bool, false, List, [], ◌∷◌, Option, Some, None}
+-- Who joined a line before whom: those that were granted from it before those that wait in it still. And how many
+-- joined one.
+use Rattle.std.specs.Prelude.{ℕ, ◌+◌, ◌<◌, if◌then◌else◌, Bool, false, is_some, List, [], ◌∷◌, Option, Some, None}
 use Rattle.std.specs.List.{AllByRecursion}
 use Rattle.std.specs.Str.{bytes_eq}
 use Rattle.band_balance.specs.Laws.{Pairwise}
@@ -43,3 +44,17 @@ GrantedInTurn calls line =
     AllByRecursion
     (λ (granted : Entry Tag). joined_at granted.name.name calls < joined_at waits.name.name calls)
     line.granted) line.waiting
+
+-- how many requests a plan puts into a line: one, or none
+abbrev pub joiners_by : Plan → ℕ
+joiners_by (Act of rule) = if is_some (joiner rule of.object) then 1 else 0
+joiners_by plan = 0
+
+-- how many join a line by calls from a state, and from the empty state
+abbrev pub joiners_from : State → List Call → ℕ
+joiners_from state [] = 0
+joiners_from state (call ∷ calls) =
+    joiners_by (plan call state) + joiners_from (step call state).state calls
+
+abbrev pub joiners_of : List Call → ℕ
+joiners_of calls = joiners_from [] calls

@@ -7,3 +7,6 @@ returns-clause-tells g c =
     on_ok_weaker c.push_wakes.result
     (λ added. tells c.args.call c.args.player.now c.run.new.self c.push_wakes.new.player _ _ _ _ c.in_ok-reply.ensures.follows c.in_ok-push_reply.ensures added c.push_wakes.ensures.state)
     c.push_wakes.ensures.added
+
+pub returns-clause-joins : goal.returns-clause-joins
+returns-clause-joins g c = on_ok_weaker c.push_wakes.result (λ (quiet : _). c.in_ok-reply.ensures.joins) c.push_wakes.ensures.quiet

@@ -1,5 +1,5 @@
 use Rattle.std.proofs.Common.{◌∙◌}
-use Rattle.band_play.proofs.Summing.{has_lines, has_transcript, lacks_memory, visits_few}
+use Rattle.band_play.proofs.Summing.{has_lines, has_transcript, lacks_memory, visits_few, visits_joiners}
 use Rattle.band_play.proofs.summary.play_bulk.Goals as goal
 
 pub returns-clause-lines : goal.returns-clause-lines
@@ -17,3 +17,8 @@ returns-clause-memory g c =
 pub returns-clause-visits : goal.returns-clause-visits
 returns-clause-visits g c =
     visits_few c.args.n c.requires.most c.new.result (c.new.ensures ∙ c.deref.ensures.value ∙ c.in_ok-script.ensures) c.play.result c.play.new.src c.args.steps.now c.play.new.steps c.play.ensures.visits
+
+pub returns-clause-joins : goal.returns-clause-joins
+returns-clause-joins g c =
+    visits_joiners c.args.n c.requires.most c.new.result (c.new.ensures ∙ c.deref.ensures.value ∙ c.in_ok-script.ensures) c.play.result c.play.new.src c.args.out.now c.play.new.dst c.args.steps.now c.play.new.steps
+    c.play.ensures.plays.answers c.play.ensures.visits

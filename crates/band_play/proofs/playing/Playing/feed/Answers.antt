@@ -1,8 +1,9 @@
-use Rattle.std.proofs.Common.{ℕ, [], Option, subst}
+use Rattle.std.proofs.Common.{ℕ, [], Option, Err, subst, ap, ◌∙◌}
 use Rattle.std.proofs.lemmas.Result.{err_from_is_err_and}
 use Rattle.band_play.specs.Playing.{RunsPiece}
 use Rattle.std.proofs.KnownBytes.{Appends-nil}
 use Rattle.band_play.proofs.Pieces.{piece_played, piece_malformed, piece_unwritten, piece_unfinished}
+use Rattle.band_play.proofs.Visits.{pays_written}
 use Rattle.band_play.proofs.playing.Playing.feed.Goals as goal
 
 pub returns-in_err-malformed-clause-stops : goal.returns-in_err-malformed-clause-stops
@@ -38,3 +39,17 @@ returns-in-None-clause-adds g c = (_, c.in_ok-write_text.ensures.ok)
 
 pub returns-in-Some-clause-adds : goal.returns-in-Some-clause-adds
 returns-in-Some-clause-adds g c = (_, c.in_ok-write_text.ensures.ok)
+
+pub returns-in_err-malformed-clause-joins : goal.returns-in_err-malformed-clause-joins
+returns-in_err-malformed-clause-joins g c =
+    let p = err_from_is_err_and c.from_residual.result c.from_residual.ensures.1 in
+    λ other. absurd (other (p.1 ∙ ap (λ f. Err f) p.2))
+
+pub returns-in_err-write_text-clause-visits : goal.returns-in_err-write_text-clause-visits
+returns-in_err-write_text-clause-visits g c = pays_written _ _ c.run_lines.new.self c.write_text.new.self c.run_lines.ensures.visits c.write_text.ensures.others
+
+pub returns-in-None-clause-visits : goal.returns-in-None-clause-visits
+returns-in-None-clause-visits g c = pays_written _ _ c.run_lines.new.self c.write_text.new.self c.run_lines.ensures.visits c.write_text.ensures.others
+
+pub returns-in-Some-clause-visits : goal.returns-in-Some-clause-visits
+returns-in-Some-clause-visits g c = pays_written _ _ c.run_lines.new.self c.write_text.new.self c.run_lines.ensures.visits c.write_text.ensures.others

@@ -1,4 +1,5 @@
 use Rattle.band_player.proofs.Follow.{sound_either}
+use Rattle.band_player.proofs.Joining.{visits_joiners}
 use Rattle.band_player.proofs.Updates.{if_ok, if_err}
 use Rattle.band_player.proofs.player.Player.run.Goals as goal
 
@@ -13,3 +14,6 @@ returns-clause-err g c = if_err c.run.result c.run.ensures.wanting (λ it. (it.s
 
 pub returns-clause-works : goal.returns-clause-works
 returns-clause-works g c = if_err c.run.result c.run.ensures.wanting (λ it. it.works)
+
+pub returns-clause-joins : goal.returns-clause-joins
+returns-clause-joins g c = visits_joiners c.args.call c.run.result c.args.self.now.table c.run.new.self c.run.ensures.answered c.run.ensures.waits c.run.ensures.visits.no_fewer
