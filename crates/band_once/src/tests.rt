@@ -196,6 +196,15 @@ fn inserts<L: Ledger, R: Abort>(rt: &R, alloc: Global, steps: &mut Steps<L>) {
     let mut cell = OnceCell::new(alloc, 5);
     let (call, next) = (cell.try_insert(6), cell.try_insert(7));
     before_its_first_poll(rt, &mut cell, call, next, steps);
+    let mut late = cell.try_insert(6);
+    assert!(rt;
+        matches!(
+            late.poll(&mut cell, Waker(1), steps),
+            Ok(Poll::Ready(Err(6)))
+        )
+    );
+    late.lose();
+    assert_eq!(rt; cell.get().copied(), Some(7));
     let mut cell = OnceCell::new(alloc, 5);
     let (holder, call) = (cell.get_or_init(Plan::Never), cell.try_insert(6));
     let next = cell.set(7);
@@ -221,6 +230,23 @@ fn forces<L: Ledger, R: Abort>(rt: &R, alloc: Global, steps: &mut Steps<L>) {
     let mut cell = LazyCell::new(alloc, 5, || Plan::After(1, 9));
     let (holder, call, next) = (cell.force(), cell.force(), cell.force());
     after_the_grant(rt, &mut cell, holder, call, next, steps);
+    let mut cell: LazyCell<u64, Plan<u64>, fn() -> Plan<u64>> = LazyCell::from_future(
+        alloc,
+        5,
+        Plan::After(1, 9),
+    );
+    let (call, next) = (cell.force(), cell.force());
+    while_it_drives(rt, &mut cell, call, next, steps);
+    assert_eq!(rt; cell.get().copied(), Some(9));
+}
+
+/// The value of a lazy cell is there from the start: a call is over at its first poll, and makes no attempt.
+fn a_value_from_the_start<L: Ledger, R: Abort>(rt: &R, alloc: Global, steps: &mut Steps<L>) {
+    let mut cell: LazyCell<u64, Plan<u64>, fn() -> Plan<u64>> = LazyCell::from_value(alloc, 5, 9);
+    let mut late = cell.force();
+    assert_eq!(rt; late.polls(&mut cell, 1, steps), Some(true));
+    late.lose();
+    assert_eq!(rt; cell.get().copied(), Some(9));
 }
 
 /// The leader of a once is dropped while it drives, and the next does it. The wait hears of that alone.
@@ -333,19 +359,19 @@ fn polls_idle<L: Ledger>(
     over(call.poll(cell, Waker(1), steps))
 }
 
-/// The same with an initializer that may give an error.
+/// The same with an initializer that may give an error, and all of the answer.
 fn tries_idle<L: Ledger>(
     cell: &mut OnceCell<u64>,
     call: &mut CellTryInitMut<Plan<Result<u64, u64>>>,
     steps: &mut Steps<L>,
-) -> Option<bool> {
+) -> Option<Poll<Result<(), u64>>> {
     if !cell.is_idle() {
         return None;
     }
-    over(call.poll(cell, Waker(1), steps))
+    call.poll(cell, Waker(1), steps).ok()
 }
 
-/// Calls that need no permit are cancelled at each moment, and one fills the cell.
+/// Calls that need no permit are cancelled at each moment, and one fills the cell. The next is over at once.
 fn calls_of_an_idle_cell<L: Ledger, R: Abort>(rt: &R, alloc: Global, steps: &mut Steps<L>) {
     let mut cell: OnceCell<u64> = OnceCell::new(alloc, 5);
     cell.get_mut_or_init(Plan::Never).cancel(&mut cell, steps);
@@ -353,14 +379,33 @@ fn calls_of_an_idle_cell<L: Ledger, R: Abort>(rt: &R, alloc: Global, steps: &mut
     assert_eq!(rt; polls_idle(&mut cell, &mut drives, steps), Some(false));
     drives.cancel(&mut cell, steps);
     let mut fails = cell.get_mut_or_try_init(Plan::After(1, Err(4)));
-    assert_eq!(rt; tries_idle(&mut cell, &mut fails, steps), Some(false));
-    assert_eq!(rt; tries_idle(&mut cell, &mut fails, steps), Some(true));
-    assert_eq!(rt; tries_idle(&mut cell, &mut fails, steps), None);
+    assert!(rt;
+        matches!(
+            tries_idle(&mut cell, &mut fails, steps),
+            Some(Poll::Pending)
+        )
+    );
+    assert!(rt;
+        matches!(
+            tries_idle(&mut cell, &mut fails, steps),
+            Some(Poll::Ready(Err(4)))
+        )
+    );
+    assert!(rt; tries_idle(&mut cell, &mut fails, steps).is_none());
     fails.cancel(&mut cell, steps);
     assert!(rt; cell.get().is_none());
     let mut fills = cell.get_mut_or_init(Plan::After(0, 7));
     assert_eq!(rt; polls_idle(&mut cell, &mut fills, steps), Some(true));
     fills.lose();
+    assert_eq!(rt; cell.get().copied(), Some(7));
+    let mut late = cell.get_mut_or_try_init(Plan::Never);
+    assert!(rt;
+        matches!(
+            tries_idle(&mut cell, &mut late, steps),
+            Some(Poll::Ready(Ok(())))
+        )
+    );
+    late.lose();
     if let Some(value) = cell.get_mut() {
         *value = 8;
     }
@@ -398,6 +443,7 @@ fn one_attempt<L: Ledger, R: Abort>(rt: &R, alloc: Global, steps: &mut Steps<L>)
     assert_eq!(rt; forces_idle(&mut cell, &mut third, steps), Some(true));
     assert_eq!(rt; forces_idle(&mut cell, &mut third, steps), None);
     third.lose();
+    assert_eq!(rt; cell.get().copied(), Some(9));
     if let Some(value) = cell.get_mut() {
         *value = 10;
     }
@@ -445,6 +491,7 @@ fn each_life<L: Ledger, R: Abort>(rt: &R, alloc: Global, blank: Blank)
     a_dropped_leader(rt, alloc, &mut steps);
     a_failed_attempt(rt, alloc, &mut steps);
     a_fault(rt, alloc, &mut steps);
+    a_value_from_the_start(rt, alloc, &mut steps);
     calls_of_an_idle_cell(rt, alloc, &mut steps);
     one_attempt(rt, alloc, &mut steps);
 }

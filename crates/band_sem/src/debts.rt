@@ -20,18 +20,34 @@ fn debts_are_paid<L: Ledger, R: Abort>(rt: &R, alloc: Global, steps: &mut Steps<
         (Release(4), 1, [1, 0, 0, 0]),
     ];
     lives(rt, alloc, 1, &life, &[], steps);
+    let thrice = [
+        (Reduce(1), -1, [0, 0, 0, 1]),
+        (Release(1), 0, [0, 0, 0, 0]),
+        (Reduce(1), -1, [0, 0, 0, 1]),
+        (Release(1), 0, [0, 0, 0, 0]),
+        (Reduce(1), -1, [0, 0, 0, 1]),
+        (Release(1), 0, [0, 0, 0, 0]),
+    ];
+    lives(rt, alloc, 0, &thrice, &[], steps);
 }
 
-/// A debt is paid before the share of one that waits grows, and leaves that share alone.
+/// A debt is paid before the share of one that waits grows, and leaves that share alone. A cancel gives that back.
 fn shares_stay<L: Ledger, R: Abort>(rt: &R, alloc: Global, steps: &mut Steps<L>) {
-    let life = [
+    let grows = [
         (Ask(3, 7), 1, [0, 1, 0, 1]),
         (Reduce(2), -1, [0, 1, 0, 2]),
         (Release(2), 1, [0, 1, 0, 1]),
         (Release(1), 2, [0, 1, 0, 1]),
         (Cancel, 2, [2, 0, 0, 0]),
     ];
-    lives(rt, alloc, 1, &life, &[], steps);
+    lives(rt, alloc, 1, &grows, &[], steps);
+    let comes_back = [
+        (Ask(3, 7), 1, [0, 1, 0, 1]),
+        (Reduce(2), -1, [0, 1, 0, 2]),
+        (Release(2), 1, [0, 1, 0, 1]),
+        (Cancel, 1, [1, 0, 0, 0]),
+    ];
+    lives(rt, alloc, 1, &comes_back, &[], steps);
 }
 
 /// All that can be owed is owed under one that has a share, and is paid before it.
