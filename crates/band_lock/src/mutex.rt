@@ -1,11 +1,11 @@
 //! The mutex.
-ghost use Rattle.std.specs.Prelude.{◌≡◌, ◌≤◌, ◌↔◌, IsTrue, IsSome, IfSome, OnSome, IfNone, IsErrOf};
+ghost use Rattle.std.specs.Prelude.{◌≡◌, ◌+◌, ◌≤◌, ◌↔◌, IsTrue, IsSome, IfSome, OnSome, IfNone, IsErrOf};
 ghost use Rattle.band_balance.specs.Line.{is_served};
 ghost use Rattle.band_sem.specs.Laws.{KeepsOrder, Leaves};
 ghost use Rattle.band_sem.specs.Permit.{new_permit};
 ghost use Rattle.band_sem.specs.Request.{new_request};
-ghost use Rattle.band_sem.specs.Semaphore.{IsLike, IsLawful, IsOwn, Polls, new_state, taken, given_back, cancelled, TakesWake};
-ghost use Rattle.band_sem.specs.Visits.{FewVisits, PollVisits};
+ghost use Rattle.band_sem.specs.Semaphore.{IsLike, IsLawful, IsOwn, Polls, new_state, taken, given_back, cancelled, was_granted, TakesWake};
+ghost use Rattle.band_sem.specs.Visits.{FewVisits, PollVisits, slots};
 ghost use Rattle.band_sem.specs.Whole.{IsWhole};
 
 use band_base::{Poll, PollError, Steps, Waker};
@@ -159,6 +159,16 @@ impl LockRequest {
             Poll::Ready(permit) => Ok(Poll::Ready(LockGuard { permit })),
             Poll::Pending => Ok(Poll::Pending),
         }
+    }
+
+    /// Whether it was granted, and has not taken the mutex yet. It leaves no waker.
+    pub fn is_granted<L: Ledger>(&self, m: &MutexState, steps: &mut Steps<L>) -> bool
+        requires number { self.now.of ≡ m.now.number }
+        requires own { IsOwn self.now.stage self.now.size m.now }
+        ensures granted { result ≡ was_granted self.now.stage m.now }
+        ensures visits { steps.new ≡ steps.old + slots self.now.stage }
+    {
+        self.request.is_granted(&m.semaphore, steps)
     }
 
     /// Ends the request. One that waits leaves the line, and one that was granted unlocks. Then the line settles.

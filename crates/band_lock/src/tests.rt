@@ -71,7 +71,9 @@ fn the_second_waits<L: Ledger, R: Abort>(rt: &R, alloc: Global, steps: &mut Step
     let guard = ready(rt, first.poll_once(&mut mutex, Waker(1), steps));
     pending(rt, second.poll_once(&mut mutex, Waker(2), steps));
     assert_eq!(rt; figures(mutex.semaphore()), [0, 1, 0, 1]);
+    assert!(rt; !second.is_granted(&mutex, steps));
     mutex.drop_guard(guard, steps);
+    assert!(rt; second.is_granted(&mutex, steps) && !first.is_granted(&mutex, steps));
     assert_eq!(rt; mutex.take_wake().map(|waker| waker.0), Some(2));
     assert!(rt; mutex.take_wake().is_none());
     assert_eq!(rt; figures(mutex.semaphore()), [0, 0, 1, 0]);

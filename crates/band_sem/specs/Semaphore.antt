@@ -1,5 +1,5 @@
 -- What a contract sees of a semaphore, and what each call makes of it.
-use Rattle.std.specs.Prelude.{◌≡◌, ℕ, ◌+◌, ◌-◌, ◌<◌, ◌≤◌, Bool, true, false, not, ◌&&◌, ◌==◌, List, ◌∷◌, [], ◌++◌, drop, map, pos, neg_ℤ, ◌+ℤ◌, ◌≤ℤ◌, IsTrue, IsSome, Option, Some, None, Result, Ok, Err, nat_eq, nat_le, if◌then◌else◌}
+use Rattle.std.specs.Prelude.{◌≡◌, ℕ, ◌+◌, ◌-◌, ◌<◌, ◌≤◌, Bool, true, false, not, ◌&&◌, ◌==◌, List, ◌∷◌, [], ◌++◌, drop, map, pos, neg_ℤ, ◌+ℤ◌, ◌≤ℤ◌, IsTrue, IsSome, is_some, Option, Some, None, Result, Ok, Err, nat_eq, nat_le, if◌then◌else◌}
 use Rattle.std.specs.List.{IsDistinct, AllByRecursion}
 use Rattle.std.specs.List.Sorted.{IsPermutation}
 use Rattle.band_balance.specs.Line.{Entry, Waiting, Line, AreAlike, entry_of, open_line, requests, total, available, is_served, take_permits, give_back, join, entry_named, without, poll_granted}
@@ -130,6 +130,16 @@ TakesWake old (Some waker) new = (old.line.wakes ≡ waker.0 ∷ new.line.wakes)
 -- somebody has this slot
 abbrev pub HasSlot : ℕ → SemaphoreState → Type 0
 HasSlot slot state = IsSome (entry_named (is_slot slot) (asked state))
+
+-- whether the request under this slot was granted
+abbrev pub is_granted : ℕ → SemaphoreState → Bool
+is_granted slot state = is_some (entry_named (is_slot slot) state.line.granted)
+
+-- whether a request that came to this was granted, and has not taken its permits
+abbrev pub was_granted : Stage → SemaphoreState → Bool
+was_granted NotPolled state = false
+was_granted (Joined slot) state = is_granted slot state
+was_granted Finished state = false
 
 -- a request that joined has its slot: it waits, was granted, or was ended
 abbrev pub IsOwn : Stage → ℕ → SemaphoreState → Type 0

@@ -26,6 +26,12 @@ PollVisits NotPolled (Err error) before after = after ≡ before
 PollVisits (Joined slot) result before after = Visits 1 2 before after
 PollVisits Finished result before after = after ≡ before
 
+-- how many slots a request has
+abbrev pub slots : Stage → ℕ
+slots NotPolled = 0
+slots (Joined slot) = 1
+slots Finished = 0
+
 -- what is in the line: who waits, and the debts
 abbrev pub burden : SemaphoreState → ℕ
 burden state = length state.line.waiting + state.debts

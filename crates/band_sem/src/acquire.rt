@@ -1,10 +1,10 @@
 //! A request for permits.
-ghost use Rattle.std.specs.Prelude.{◌≡◌};
+ghost use Rattle.std.specs.Prelude.{◌≡◌, ◌+◌};
 ghost use Rattle.band_sem.specs.Laws.{KeepsOrder, Leaves};
 ghost use Rattle.band_sem.specs.Request.{new_request, NotPolled, Joined};
-ghost use Rattle.band_sem.specs.Semaphore.{IsLike, IsLawful, IsOwn, Polls, FirstPoll, LaterPoll, cancelled};
+ghost use Rattle.band_sem.specs.Semaphore.{IsLike, IsLawful, IsOwn, Polls, FirstPoll, LaterPoll, cancelled, was_granted};
 ghost use Rattle.band_line.specs.Visits.{Visits};
-ghost use Rattle.band_sem.specs.Visits.{FewVisits, PollVisits};
+ghost use Rattle.band_sem.specs.Visits.{FewVisits, PollVisits, slots};
 ghost use Rattle.band_sem.specs.Whole.{StaysWhole};
 
 use crate::store::Entrance;
@@ -103,6 +103,19 @@ impl Acquire {
                 sem.touch();
                 Err(PollError::Finished)
             }
+        }
+    }
+
+    /// Whether it was granted, and has not taken its permits yet. It leaves no waker.
+    pub fn is_granted<L: Ledger>(&self, sem: &Semaphore, steps: &mut Steps<L>) -> bool
+        requires number { self.now.of ≡ sem.now.number }
+        requires own { IsOwn self.now.stage self.now.size sem.now }
+        ensures granted { result ≡ was_granted self.now.stage sem.now }
+        ensures visits { steps.new ≡ steps.old + slots self.now.stage }
+    {
+        match &self.progress {
+            Progress::Joined(slot) => sem.is_granted(*slot, steps),
+            Progress::NotPolled | Progress::Finished => false,
         }
     }
 

@@ -4,7 +4,7 @@ ghost use Rattle.band_balance.specs.Line.{total, available, drained, overflows, 
 ghost use Rattle.band_sem.specs.Permit.{new_permit};
 ghost use Rattle.band_sem.specs.Request.{new_request};
 ghost use Rattle.band_sem.specs.Laws.{KeepsOrder, LeavesOthers};
-ghost use Rattle.band_sem.specs.Semaphore.{SemaphoreState, IsLike, IsLawful, HasSlot, new_state, new_debts, serves, taken, given_back, forgotten, released, reduced, shut, without_request, TakesWake};
+ghost use Rattle.band_sem.specs.Semaphore.{SemaphoreState, IsLike, IsLawful, HasSlot, is_granted, new_state, new_debts, serves, taken, given_back, forgotten, released, reduced, shut, without_request, TakesWake};
 ghost use Rattle.band_line.specs.Visits.{Visits};
 ghost use Rattle.band_sem.specs.Shown.{ShowsLine};
 ghost use Rattle.band_sem.specs.Visits.{FewVisits};
@@ -260,6 +260,15 @@ impl Semaphore {
         ensures visits { EntersIn result steps.old steps.new }
     {
         self.store.enter(size, waker, steps)
+    }
+
+    /// Whether the request under this slot was granted.
+    pub(crate) fn is_granted<L: Ledger>(&self, slot: WaiterId, steps: &mut Steps<L>) -> bool
+        requires { HasSlot slot self.now }
+        ensures granted { result ≡ is_granted slot self.now }
+        ensures visits { steps.new ≡ steps.old + 1 }
+    {
+        self.store.is_granted(slot, steps)
     }
 
     /// A later poll, which tells how many permits it takes if it was granted, and whether it was ended.

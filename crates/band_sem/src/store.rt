@@ -3,7 +3,7 @@ ghost use Rattle.std.specs.Prelude.{◌≡◌, ◌+◌, ◌*◌, ◌<◌, ◌≤
 ghost use Rattle.std.specs.Bool.{OnTrue};
 ghost use Rattle.band_balance.specs.Line.{total, available, drained, overflows, owes_too_much, is_served};
 ghost use Rattle.band_line.specs.Visits.{Visits};
-ghost use Rattle.band_sem.specs.Semaphore.{IsLike, HasSlot, new_state, new_debts, serves, taken, given_back, forgotten, released, reduced, shut, without_request, TakesWake};
+ghost use Rattle.band_sem.specs.Semaphore.{IsLike, HasSlot, is_granted, new_state, new_debts, serves, taken, given_back, forgotten, released, reduced, shut, without_request, TakesWake};
 ghost use Rattle.band_sem.specs.Visits.{FewVisits};
 ghost use Rattle.band_sem.specs.Kept.Store.{line_in, state_of, CountsFit, IsSound, Enters, EntersIn, PollsSlot};
 
@@ -317,6 +317,15 @@ impl Store {
     {
         self.forget(count);
         self.add(count, steps);
+    }
+
+    /// Whether the request under this slot was granted.
+    pub(crate) fn is_granted<L: Ledger>(&self, slot: WaiterId, steps: &mut Steps<L>) -> bool
+        requires { HasSlot slot (state_of self.now) }
+        ensures granted { result ≡ is_granted slot (state_of self.now) }
+        ensures visits { steps.new ≡ steps.old + 1 }
+    {
+        self.row.is_granted(slot, steps)
     }
 
     /// One that was granted takes its permits, whose count is told, one that was ended leaves, and one that waits leaves its new waker.

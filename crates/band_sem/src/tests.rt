@@ -160,7 +160,9 @@ fn waits<L: Ledger, R: Abort>(rt: &R, sem: &mut Semaphore, case: &Waited, steps:
     let mut request = sem.acquire(case.asked);
     pends(rt, &mut request, sem, Waker(7), steps);
     assert_eq!(rt; sem.waiting_count(), 1);
+    assert!(rt; !request.is_granted(sem, steps));
     adds(rt, sem, case.added, steps);
+    assert!(rt; request.is_granted(sem, steps));
     assert_eq!(rt; sem.take_wake().map(|waker| waker.0), Some(7));
     assert!(rt; sem.take_wake().is_none());
     assert_eq!(rt; sem.granted_permits(), case.asked);
