@@ -7,7 +7,7 @@ use Rattle.std.specs.Result.{is_err}
 use Rattle.std.specs.declared.alloc.AllocError.{AllocError}
 use Rattle.std.proofs.lemmas.Bool.Decides.{nat_tests}
 use Rattle.std.proofs.lemmas.List.Sums.{sum_by-cons}
-use Rattle.band_balance.specs.Line.{Entry, total, is_served, entry_named}
+use Rattle.band_balance.specs.Line.{is_served, entry_named}
 use Rattle.band_base.specs.declared.poll.Poll.{Poll}
 use Rattle.band_base.specs.declared.poll.Poll.TheVariants.{Ready, Pending}
 use Rattle.band_base.specs.declared.poll.PollError.{PollError}
@@ -15,12 +15,12 @@ use Rattle.band_base.specs.declared.poll.PollError.TheVariants as errors
 use Rattle.band_base.specs.declared.waker.Waker.{Waker}
 use Rattle.band_sem.specs.Permit.{Permit}
 use Rattle.band_sem.specs.Semaphore as sem
-use Rattle.band_sem.specs.Semaphore.{SemaphoreState, is_slot, taken, received}
+use Rattle.band_sem.specs.Semaphore.{SemaphoreState, is_slot, is_granted, taken, received}
 use Rattle.band_condvar.specs.declared.place.Place.{Place}
 use Rattle.band_condvar.specs.declared.place.Place.TheVariants.{Queued, Chosen, Released}
 use Rattle.band_condvar.specs.Batons.{chosen_count, batons, one_if, ended_while}
 use Rattle.band_condvar.specs.Condvar.{CondvarState, place_at, is_queued, with_waker, gone, with_spare}
-use Rattle.band_condvar.specs.Waits.{Stage, Enqueue, Registered, Reacquiring, Finished, Wait, Monitor, monitor, Test, Registers, Leaves, Reacquires, PollsPlace, PollsAt, Acquires, Answers, Asks, MayAsk, PollsWhileIf, PollsWhile, IsRoomier, JoinsMutex, has_turn, may_ask, has_baton}
+use Rattle.band_condvar.specs.Waits.{Stage, Enqueue, Registered, Reacquiring, Finished, Wait, Monitor, monitor, Test, Registers, Leaves, Reacquires, PollsPlace, PollsAt, Acquires, Answers, Asks, AsksInTurn, PollsWhileIf, PollsWhile, IsRoomier, JoinsMutex, has_turn, has_baton}
 use Rattle.band_condvar.proofs.Batons.{joins, poll-keeps, acquires-keep, none-ended}
 
 -- a call at a `&mut`, by the values there
@@ -111,27 +111,13 @@ no-turn (Registered slot) of waker old next new waits = no_turn_at slot of waker
 no-turn (Reacquiring baton slot) of waker old next new (none, ends, same) = ap is_some none
 no-turn Finished of waker old next new (is, ends, same) = refl
 
--- who may not ask is polled as one that is to have the guard
-polled : (stage : Stage) (of : ℕ) (waker : Waker) (old : Monitor) (result : Result (Poll Permit) PollError) (next : Stage) (new : Monitor) → may_ask stage old ≡ false
+-- who has no turn is polled as one that is to have the guard
+polled : (stage : Stage) (of : ℕ) (waker : Waker) (old : Monitor) (result : Result (Poll Permit) PollError) (next : Stage) (new : Monitor) → has_turn stage old ≡ false
     → PollsAt stage of waker old result next new → Acquires stage of waker old result next new
 polled (Enqueue guard) of waker old result next new may polls = absurd (cc)
 polled (Registered slot) of waker old result next new may polls = polls
 polled (Reacquiring baton slot) of waker old result next new may polls = polls
 polled Finished of waker old result next new may polls = polls
-
--- where nobody was granted the mutex, this one was not
-none-granted : (slot : ℕ) (entries : List (Entry ℕ)) → entry_named (is_slot slot) entries ≡ Some (record { name = slot; size = 1 }) → total entries ≡ 0 → ⊥
-none-granted slot [] named none = absurd (cc)
-none-granted slot (x ∷ xs) named none = by_test (is_slot slot x.name) named (none-granted slot xs)
-  where
-    by_test : (b : Bool) → (if b then Some x else entry_named (is_slot slot) xs) ≡ Some (record { name = slot; size = 1 })
-        → (entry_named (is_slot slot) xs ≡ Some (record { name = slot; size = 1 }) → total xs ≡ 0 → ⊥) → ⊥
-    by_test true here rest = let one : x.size ≡ 1 = cc in let split = sum_by-cons (λ (e : Entry ℕ). e.size) x xs in omega (arith, one, split, none)
-    by_test false later rest = let split = sum_by-cons (λ (e : Entry ℕ). e.size) x xs in rest later (omega (arith, split, none))
-
-none_there : (baton : Bool) (slot of : ℕ) (waker : Waker) (old : Monitor) (guard : Permit) (next : Stage) (new : Monitor) → total old.mutex.line.granted ≡ 0
-    → Reacquires baton slot of waker old (Ok (Ready guard)) next new → ⊥
-none_there baton slot of waker old guard next new none (there, gives, ends, same) = none-granted slot old.mutex.line.granted there none
 
 -- more room, and more again
 more-room : (held had new : Monitor) → IsRoomier held had → IsRoomier had new → IsRoomier held new
@@ -152,7 +138,7 @@ registers_all_the_same guard waker held had next new (room, mutex) registers =
     (subst (λ (c : CondvarState). Registers guard waker (monitor c had.mutex) (Ok Pending) next new) room registers)
 
 module _ {F T : Type 0} (g : Mut F (MutBor T × Unit {0}) (Bool × (MutBor T × Unit {0}))) (wait : Wait) (waker : Waker) (old made : CondvarState) (mutex : SemaphoreState)
-    (may : may_ask wait.stage (monitor old mutex) ≡ true) (room : made ≡ with_spare made.line.nodes.spare old) where
+    (may : has_turn wait.stage (monitor old mutex) ≡ true) (room : made ≡ with_spare made.line.nodes.spare old) where
   in-room : (answer : Poll Permit) (next : Stage) (had : Monitor) → Acquires wait.stage wait.of waker (monitor made mutex) (Ok answer) next had
       → (held : Monitor) × Acquires wait.stage wait.of waker (monitor old mutex) (Ok answer) next held × IsRoomier held had
   in-room answer next had acquires =
@@ -160,16 +146,17 @@ module _ {F T : Type 0} (g : Mut F (MutBor T × Unit {0}) (Bool × (MutBor T × 
       (subst (λ (c : CondvarState). Acquires wait.stage wait.of waker (monitor c mutex) (Ok answer) next had) room acquires)
 
   asks : (result : Result (Poll Permit) PollError) (before after : Test F T) (next : Wait) (new : Monitor)
-      → MayAsk g wait.stage wait.of waker before (monitor old mutex) result after next.stage new → next.of ≡ wait.of
+      → AsksInTurn g wait.stage wait.of waker before (monitor old mutex) result after next.stage new → next.of ≡ wait.of
       → PollsWhile g wait waker before (monitor old mutex) result after next new
   asks result before after next new polls of =
       (subst (λ b. PollsWhileIf g b wait.stage wait.of waker before (monitor old mutex) result after next.stage new) (sym may) polls, of)
 
-  pub while-waits : (test : Test F T) (next : Wait) (had : Monitor) → Acquires wait.stage wait.of waker (monitor made mutex) (Ok Pending) next.stage had → next.of ≡ wait.of
-      → PollsWhile g wait waker test (monitor old mutex) (Ok Pending) test next had
-  while-waits test next had acquires of =
-      let found = in-room Pending next.stage had acquires in
-      asks (Ok Pending) test test next had (inl (found.0, found.1, refl, found.2)) of
+  -- in its turn none goes on without the guard
+  pub while-waits : (next : Stage) (had : Monitor) → Acquires wait.stage wait.of waker (monitor made mutex) (Ok Pending) next had → ⊥
+  while-waits next had acquires =
+      let found = in-room Pending next had acquires in
+      let never : true ≡ false = sym may ∙ no-turn wait.stage wait.of waker (monitor old mutex) next found.0 found.1 in
+      absurd (cc)
 
   pub while-asks : (guard : Permit) (answer : Poll Permit) (before after : Test F T) (between : Stage) (had : Monitor) (next : Wait) (new : Monitor)
       → Acquires wait.stage wait.of waker (monitor made mutex) (Ok (Ready guard)) between had
@@ -195,47 +182,41 @@ module _ {F T : Type 0} (g : Mut F (MutBor T × Unit {0}) (Bool × (MutBor T × 
           ) of
       by_answer Pending (answers, registers) =
           asks (Ok Pending) before after next new
-          (inr (guard, found.0, has, (answers, registers_all_the_same guard waker found.0 had next.stage new found.2 registers))) of
+          (guard, found.0, has, (answers, registers_all_the_same guard waker found.0 had next.stage new found.2 registers)) of
 
 -- What a poll of a wait with a condition tells of the condition.
 module _ {F T : Type 0} (g : Mut F (MutBor T × Unit {0}) (Bool × (MutBor T × Unit {0}))) where
-  -- one that may not ask is not ready
-  waits-still : (stage : Stage) (of : ℕ) (waker : Waker) (old new : Monitor) (guard : Permit) (next : Stage) → may_ask stage old ≡ false
+  -- one that has no turn is not ready
+  waits-still : (stage : Stage) (of : ℕ) (waker : Waker) (old new : Monitor) (guard : Permit) (next : Stage) → has_turn stage old ≡ false
       → PollsAt stage of waker old (Ok (Ready guard)) next new → ⊥
   waits-still (Enqueue guard') of waker old new guard next may polls = polls
   waits-still (Registered slot) of waker old new guard next may polls =
       absurd (let never : true ≡ false = sym (turn_at slot of waker old guard next new (place_at slot old.condvar) polls) ∙ may in cc)
-  waits-still (Reacquiring baton slot) of waker old new guard next may polls = by_test (total old.mutex.line.granted == 0) refl may
-    where
-      by_test : (b : Bool) → (total old.mutex.line.granted == 0) ≡ b → not b ≡ false → ⊥
-      by_test true is may =
-          let none : total old.mutex.line.granted ≡ 0 = grind (arith, nat_tests) in none_there baton slot of waker old guard next new none polls
-      by_test false is may = let never : true ≡ false = may in absurd (cc)
+  waits-still (Reacquiring baton slot) of waker old new guard next may polls =
+      absurd (let never : true ≡ false = sym (ap is_some polls.0) ∙ may in cc)
   waits-still Finished of waker old new guard next may (answers, ends, is) = absurd (cc)
 
   pub ends-at-false : (wait next : Wait) (waker : Waker) (before after : Test F T) (old new : Monitor) (guard : Permit)
       → PollsWhile g wait waker before old (Ok (Ready guard)) after next new → (has_turn wait.stage old ≡ true) × Answers g before false after
-  ends-at-false wait next waker before after old new guard (polls, of) = by_may (may_ask wait.stage old) refl polls
+  ends-at-false wait next waker before after old new guard (polls, of) = by_may (has_turn wait.stage old) refl polls
     where
-      by_may : (b : Bool) → may_ask wait.stage old ≡ b → PollsWhileIf g b wait.stage wait.of waker before old (Ok (Ready guard)) after next.stage new
+      by_may : (b : Bool) → has_turn wait.stage old ≡ b → PollsWhileIf g b wait.stage wait.of waker before old (Ok (Ready guard)) after next.stage new
           → (has_turn wait.stage old ≡ true) × Answers g before false after
-      by_may true is (held, has, asked) = (had-turn wait.stage wait.of waker old guard Finished held has, asked.0)
+      by_may true is (held, has, asked) = (is, asked.0)
       by_may false is polled = absurd (waits-still wait.stage wait.of waker old new guard next.stage is polled.0)
 
   pub goes-on-at-true : (wait next : Wait) (waker : Waker) (before after : Test F T) (old new : Monitor)
       → PollsWhile g wait waker before old (Ok Pending) after next new → MatchBool (has_turn wait.stage old) (Answers g before true after) (after ≡ before)
-  goes-on-at-true wait next waker before after old new (polls, of) = by_may (may_ask wait.stage old) refl polls
+  goes-on-at-true wait next waker before after old new (polls, of) = by_may (has_turn wait.stage old) refl polls
     where
-      by_may : (b : Bool) → may_ask wait.stage old ≡ b → PollsWhileIf g b wait.stage wait.of waker before old (Ok Pending) after next.stage new
+      by_may : (b : Bool) → has_turn wait.stage old ≡ b → PollsWhileIf g b wait.stage wait.of waker before old (Ok Pending) after next.stage new
           → MatchBool (has_turn wait.stage old) (Answers g before true after) (after ≡ before)
-      by_may true is (inl (held, waits, same, room)) = rw (no-turn wait.stage wait.of waker old next.stage held waits) same
-      by_may true is (inr (guard, held, has, asked)) = rw (had-turn wait.stage wait.of waker old guard Finished held has) asked.0
-      by_may false is (polls, same) =
-          rw (no-turn wait.stage wait.of waker old next.stage new (polled wait.stage wait.of waker old (Ok Pending) next.stage new is polls)) same
+      by_may true is (guard, held, has, asked) = rw is asked.0
+      by_may false is (polls, same) = rw is same
 
   pub refused-unasked : (wait next : Wait) (waker : Waker) (before after : Test F T) (old new : Monitor) (error : PollError)
       → PollsWhile g wait waker before old (Err error) after next new → after ≡ before
-  refused-unasked wait next waker before after old new error (polls, of) = by_may (may_ask wait.stage old) error polls
+  refused-unasked wait next waker before after old new error (polls, of) = by_may (has_turn wait.stage old) error polls
     where
       by_may : (b : Bool) (error : PollError) → PollsWhileIf g b wait.stage wait.of waker before old (Err error) after next.stage new → after ≡ before
       by_may true errors.NoMemory (same, ends, room) = same
@@ -244,8 +225,8 @@ module _ {F T : Type 0} (g : Mut F (MutBor T × Unit {0}) (Bool × (MutBor T × 
 
   -- where a poll finds no memory
   pub no-memory : (wait next : Wait) (waker : Waker) (before after : Test F T) (old new : Monitor) → PollsWhile g wait waker before old (Err errors.NoMemory) after next new
-      → (may_ask wait.stage old ≡ true) ⊎ JoinsMutex wait.stage old
-  no-memory wait next waker before after old new (polls, of) = by_may (may_ask wait.stage old) refl polls
+      → (has_turn wait.stage old ≡ true) ⊎ JoinsMutex wait.stage old
+  no-memory wait next waker before after old new (polls, of) = by_may (has_turn wait.stage old) refl polls
     where
       at_place : (slot : ℕ) (place : Option Place) → PollsPlace place slot wait.of waker old (Err errors.NoMemory) next.stage new
           → (is_queued place ≡ false) × (is_served 1 old.mutex.line ≡ false)
@@ -254,26 +235,26 @@ module _ {F T : Type 0} (g : Mut F (MutBor T × Unit {0}) (Bool × (MutBor T × 
       at_place slot (Some Released) (waits, ends, is) = (refl, waits)
       at_place slot None polls = absurd polls
 
-      joins_mutex : (stage : Stage) → may_ask stage old ≡ false → PollsAt stage wait.of waker old (Err errors.NoMemory) next.stage new → JoinsMutex stage old
+      joins_mutex : (stage : Stage) → has_turn stage old ≡ false → PollsAt stage wait.of waker old (Err errors.NoMemory) next.stage new → JoinsMutex stage old
       joins_mutex (Enqueue guard) may polls = absurd (cc)
       joins_mutex (Registered slot) may polls = at_place slot (place_at slot old.condvar) polls
       joins_mutex (Reacquiring baton slot) may polls = absurd polls
       joins_mutex Finished may (answers, ends, is) = absurd (cc)
 
-      by_may : (b : Bool) → may_ask wait.stage old ≡ b → PollsWhileIf g b wait.stage wait.of waker before old (Err errors.NoMemory) after next.stage new
-          → (may_ask wait.stage old ≡ true) ⊎ JoinsMutex wait.stage old
+      by_may : (b : Bool) → has_turn wait.stage old ≡ b → PollsWhileIf g b wait.stage wait.of waker before old (Err errors.NoMemory) after next.stage new
+          → (has_turn wait.stage old ≡ true) ⊎ JoinsMutex wait.stage old
       by_may true is polls = inl is
       by_may false is polls = inr (joins_mutex wait.stage is polls.0)
 
   pub in-line : (wait next : Wait) (waker : Waker) (before after : Test F T) (old new : Monitor) (result : Result (Poll Permit) PollError) (baton : Bool) (slot : ℕ)
-      → wait.stage ≡ Reacquiring baton slot → total old.mutex.line.granted ≡ 0 → PollsWhile g wait waker before old result after next new → result ≡ Ok Pending
+      → wait.stage ≡ Reacquiring baton slot → is_granted slot old.mutex ≡ false → PollsWhile g wait waker before old result after next new → result ≡ Ok Pending
   in-line wait next waker before after old new result baton slot stage none (polls, of) =
-      by_result result (subst (λ b. PollsWhileIf g b (Reacquiring baton slot) wait.of waker before old result after next.stage new) (ap (λ n. not (n == 0)) none)
-      (subst (λ s. PollsWhileIf g (may_ask s old) s wait.of waker before old result after next.stage new) stage polls))
+      by_result result (subst (λ b. PollsWhileIf g b (Reacquiring baton slot) wait.of waker before old result after next.stage new) none
+      (subst (λ s. PollsWhileIf g (has_turn s old) s wait.of waker before old result after next.stage new) stage polls))
     where
       by_result : (result : Result (Poll Permit) PollError) → PollsWhileIf g false (Reacquiring baton slot) wait.of waker before old result after next.stage new
           → result ≡ Ok Pending
-      by_result (Ok (Ready guard)) polls = absurd (none_there baton slot wait.of waker old guard next.stage new none polls.0)
+      by_result (Ok (Ready guard)) polls = absurd (waits-still (Reacquiring baton slot) wait.of waker old new guard next.stage none polls.0)
       by_result (Ok Pending) polls = refl
       by_result (Err error) polls = absurd (polls.0)
 
@@ -281,24 +262,19 @@ module _ {F T : Type 0} (g : Mut F (MutBor T × Unit {0}) (Bool × (MutBor T × 
   pub while-keeps : (wait next : Wait) (waker : Waker) (before after : Test F T) (old new : Monitor) (result : Result (Poll Permit) PollError)
       → PollsWhile g wait waker before old result after next new
       → batons next.stage new.condvar + ended_while result (has_baton wait.stage old.condvar) next.stage ≡ batons wait.stage old.condvar
-  while-keeps wait next waker before after old new result (polls, of) = by_may (may_ask wait.stage old) refl result polls
+  while-keeps wait next waker before after old new result (polls, of) = by_may (has_turn wait.stage old) refl result polls
     where
       counts : (held : Monitor) → IsRoomier held new → chosen_count new.condvar ≡ chosen_count held.condvar
       counts held (room, mutex) = ap (λ (c : CondvarState). chosen_count c) room
 
-      by_may : (b : Bool) → may_ask wait.stage old ≡ b → (result : Result (Poll Permit) PollError)
+      by_may : (b : Bool) → has_turn wait.stage old ≡ b → (result : Result (Poll Permit) PollError)
           → PollsWhileIf g b wait.stage wait.of waker before old result after next.stage new
           → batons next.stage new.condvar + ended_while result (has_baton wait.stage old.condvar) next.stage ≡ batons wait.stage old.condvar
       by_may true is (Ok (Ready guard)) (held, has, (answers, gives, ends, room)) =
           let kept = acquires-keep wait.stage wait.of waker old (Ready guard) Finished held has in
           let count = counts held room in
           ap (λ s. batons s new.condvar + one_if (has_baton wait.stage old.condvar)) ends ∙ omega (arith, kept, count)
-      by_may true is (Ok Pending) (inl (held, waits, same, room)) =
-          let kept = acquires-keep wait.stage wait.of waker old Pending next.stage held waits in
-          let count = counts held room in
-          let none = none-ended wait.stage wait.of waker old next.stage held waits in
-          omega (arith, kept, count, none)
-      by_may true is (Ok Pending) (inr (guard, held, has, (answers, (ends, vacant, joined, given)))) =
+      by_may true is (Ok Pending) (guard, held, has, (answers, (ends, vacant, joined, given))) =
           let kept = acquires-keep wait.stage wait.of waker old (Ready guard) Finished held has in
           let count = ap (λ (c : CondvarState). chosen_count c) joined ∙ joins waker new.condvar.line.nodes.spare held.condvar vacant in
           ap (λ s. batons s new.condvar + ended_while (Ok Pending) (has_baton wait.stage old.condvar) s) ends ∙ omega (arith, kept, count)

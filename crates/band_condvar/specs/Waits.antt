@@ -1,9 +1,9 @@
 -- The waits for a condition variable: what their polls and their cancel make of it and of its mutex.
-use Rattle.std.specs.Prelude.{◌≡◌, ◌≢◌, ℕ, ◌+◌, ◌*◌, ◌≤◌, List, [], ◌==◌, ◌&&◌, ◌⊎◌, Bool, true, false, not, if◌then◌else◌, is_some, IsTrue, Option, Some, None, IsSome, Result, Ok, Err}
+use Rattle.std.specs.Prelude.{◌≡◌, ◌≢◌, ℕ, ◌+◌, ◌*◌, ◌≤◌, List, [], ◌==◌, ◌&&◌, Bool, true, false, not, if◌then◌else◌, IsTrue, Option, Some, None, IsSome, Result, Ok, Err}
 use Rattle.std.specs.Borrow.{MutBor}
 use Rattle.std.specs.Option.{option_map_or}
 use Rattle.std.specs.Fn.{Mut, Takes, CalledAtMut}
-use Rattle.band_balance.specs.Line.{total, is_served, entry_named}
+use Rattle.band_balance.specs.Line.{is_served, entry_named}
 use Rattle.band_base.specs.declared.poll.Poll.{Poll}
 use Rattle.band_base.specs.declared.poll.Poll.TheVariants.{Ready, Pending}
 use Rattle.band_base.specs.declared.poll.PollError.{PollError}
@@ -16,7 +16,7 @@ use Rattle.band_sem.specs.Laws as sem_laws
 use Rattle.band_sem.specs.Permit.{Permit, new_permit}
 use Rattle.band_sem.specs.Request.{Joined}
 use Rattle.band_sem.specs.Semaphore as sem
-use Rattle.band_sem.specs.Semaphore.{SemaphoreState, IsLike, IsOwn, is_slot, asked, taken, given_back, received, without_request}
+use Rattle.band_sem.specs.Semaphore.{SemaphoreState, IsLike, IsOwn, is_slot, is_granted, asked, taken, given_back, received, without_request}
 use Rattle.band_sem.specs.Visits.{served}
 use Rattle.band_condvar.specs.declared.place.Place.{Place}
 use Rattle.band_condvar.specs.declared.place.Place.TheVariants.{Queued, Chosen, Released}
@@ -220,11 +220,11 @@ pub record WaitWhile (F : Type 0) : Type 0 where
 abbrev pub is_free_for : ℕ → Monitor → Bool
 is_free_for slot old = not (is_queued (place_at slot old.condvar)) && is_served 1 old.mutex.line
 
--- whose turn it is: a poll that finds memory has the guard, and asks the condition
+-- whose turn it is: a poll makes room to wait again, and where it finds memory it has the guard and asks the condition
 abbrev pub has_turn : Stage → Monitor → Bool
 has_turn (Enqueue guard) old = true
 has_turn (Registered slot) old = is_free_for slot old
-has_turn (Reacquiring baton slot) old = is_some (entry_named (is_slot slot) old.mutex.line.granted)
+has_turn (Reacquiring baton slot) old = is_granted slot old.mutex
 has_turn Finished old = false
 
 -- one that was called joins the mutex's line, unless it is free
@@ -234,14 +234,6 @@ JoinsMutex (Registered slot) old =
 JoinsMutex (Enqueue guard) old = ⊥
 JoinsMutex (Reacquiring baton slot) old = ⊥
 JoinsMutex Finished old = ⊥
-
--- Whether a poll makes room to wait again, before it asks. One in the mutex's line doesn't look who was granted the
--- mutex, but whether somebody was.
-abbrev pub may_ask : Stage → Monitor → Bool
-may_ask (Enqueue guard) old = true
-may_ask (Registered slot) old = is_free_for slot old
-may_ask (Reacquiring baton slot) old = not (total old.mutex.line.granted == 0)
-may_ask Finished old = false
 
 -- to have the guard: one that has it is finished, and each other is polled
 abbrev pub Acquires :
@@ -286,32 +278,28 @@ module _ {F T : Type 0} (g : Mut F (MutBor T × Unit {0}) (Bool × (MutBor T × 
       Answers before true after × Registers guard waker old (Ok Pending) stage new
   Asks guard waker before old (Err error) after stage new = ⊥
 
-  -- A poll that may ask the condition: it asks once it has the guard. Where there was no memory to wait again, the
-  -- condition was not asked.
-  abbrev pub MayAsk : Stage → ℕ → Waker → Test F T → Monitor → Result (Poll Permit) PollError
+  -- A poll in its turn: it has the guard and asks the condition. Where there was no memory to wait again, the condition
+  -- was not asked.
+  abbrev pub AsksInTurn : Stage → ℕ → Waker → Test F T → Monitor → Result (Poll Permit) PollError
       → Test F T → Stage → Monitor → Type 0
-  MayAsk stage of waker before old (Ok (Ready guard)) after next new =
+  AsksInTurn stage of waker before old (Ok (Ready guard)) after next new =
       (held : Monitor)
       × Acquires stage of waker old (Ok (Ready guard)) Finished held
       × Asks guard waker before held (Ok (Ready guard)) after next new
-  MayAsk stage of waker before old (Ok Pending) after next new =
-      ((held : Monitor)
-      × Acquires stage of waker old (Ok Pending) next held
-      × (after ≡ before)
-      × IsRoomier held new)
-      ⊎ ((guard : Permit)
+  AsksInTurn stage of waker before old (Ok Pending) after next new =
+      (guard : Permit)
       × (held : Monitor)
       × Acquires stage of waker old (Ok (Ready guard)) Finished held
-      × Asks guard waker before held (Ok Pending) after next new)
-  MayAsk stage of waker before old (Err errors.NoMemory) after next new =
+      × Asks guard waker before held (Ok Pending) after next new
+  AsksInTurn stage of waker before old (Err errors.NoMemory) after next new =
       (after ≡ before) × (next ≡ stage) × (new ≡ old)
-  MayAsk stage of waker before old (Err error) after next new = ⊥
+  AsksInTurn stage of waker before old (Err error) after next new = ⊥
 
-  -- by whether it may: each other is polled as a wait, which asks for no room but in the mutex's line
+  -- by whose turn it is: each other is polled as a wait, which asks for no room but in the mutex's line
   abbrev pub PollsWhileIf : Bool → Stage → ℕ → Waker → Test F T → Monitor
       → Result (Poll Permit) PollError → Test F T → Stage → Monitor → Type 0
   PollsWhileIf true stage of waker before old result after next new =
-      MayAsk stage of waker before old result after next new
+      AsksInTurn stage of waker before old result after next new
   PollsWhileIf false stage of waker before old result after next new =
       PollsAt stage of waker old result next new × (after ≡ before)
 
@@ -319,5 +307,5 @@ module _ {F T : Type 0} (g : Mut F (MutBor T × Unit {0}) (Bool × (MutBor T × 
   abbrev pub PollsWhile : Wait → Waker → Test F T → Monitor → Result (Poll Permit) PollError
       → Test F T → Wait → Monitor → Type 0
   PollsWhile wait waker before old result after next new =
-      PollsWhileIf (may_ask wait.stage old) wait.stage wait.of waker before old result after next.stage new
+      PollsWhileIf (has_turn wait.stage old) wait.stage wait.of waker before old result after next.stage new
       × (next.of ≡ wait.of)

@@ -1,6 +1,5 @@
 //! Laws of the condition variable.
 ghost use Rattle.std.specs.Prelude.{◌≡◌, ◌+◌, ◌⊎◌, ℕ, Bool, Some, None, Ok, Err, Result, false, true, IsTrue, MatchBool};
-ghost use Rattle.band_balance.specs.Line.{total};
 ghost use Rattle.band_base.specs.declared.poll.Poll.{Poll as ThePoll};
 ghost use Rattle.band_base.specs.declared.poll.Poll.TheVariants.{Ready, Pending};
 ghost use Rattle.band_base.specs.declared.poll.PollError.{PollError as TheError};
@@ -8,9 +7,10 @@ ghost use Rattle.band_base.specs.declared.poll.PollError.TheVariants as errors;
 ghost use Rattle.band_base.specs.declared.waker.Waker.{Waker as TheWaker};
 ghost use Rattle.band_condvar.specs.Batons.{chosen_count, batons, ended, ended_while};
 ghost use Rattle.band_condvar.specs.Condvar.{CondvarState, IsCondvar, one_notified, all_notified};
-ghost use Rattle.band_condvar.specs.Waits.{Stage, Reacquiring, Wait, Monitor, Polls, has_baton, uncalled, cancelled, Test, Answers, has_turn, may_ask, JoinsMutex, PollsWhile};
+ghost use Rattle.band_condvar.specs.Waits.{Stage, Reacquiring, Wait, Monitor, Polls, has_baton, uncalled, cancelled, Test, Answers, has_turn, JoinsMutex, PollsWhile};
 ghost use Rattle.band_line.specs.WaitList.{first_waiter};
 ghost use Rattle.band_sem.specs.Permit.{Permit};
+ghost use Rattle.band_sem.specs.Semaphore.{is_granted};
 
 /// A baton is given by `notify_one` to the first in line. A poll ends that of its own wait alone: of a `CondWait` where it
 /// is ready, and of a `CondWaitWhile` where it has the mutex again, and so is ready or waits again. A cancel hands it on to
@@ -49,14 +49,14 @@ pub fn a_wait_ends_where_its_condition_is_false<T, F: FnMut(&mut T) -> bool>()
         → after ≡ before }
 {}
 
-/// A poll of a wait with a condition finds no memory only where it may come to ask, or has to join the mutex's line. One in
-/// that line takes no memory while nobody was granted the mutex.
+/// A poll of a wait with a condition finds no memory only where it is its turn to ask, or it has to join the mutex's line. One
+/// in that line takes no memory until it was granted the mutex.
 pub fn waiting_takes_no_memory<T, F: FnMut(&mut T) -> bool>()
     ensures no_memory { (wait next : Wait) (waker : TheWaker) (before after : Test F T) (old new : Monitor)
         → PollsWhile F.FnMut wait waker before old (Err errors.NoMemory) after next new
-        → IsTrue (may_ask wait.stage old) ⊎ JoinsMutex wait.stage old }
+        → IsTrue (has_turn wait.stage old) ⊎ JoinsMutex wait.stage old }
     ensures in_line { (wait next : Wait) (waker : TheWaker) (before after : Test F T) (old new : Monitor)
         (result : Result (ThePoll Permit) TheError) (baton : Bool) (slot : ℕ)
-        → wait.stage ≡ Reacquiring baton slot → total old.mutex.line.granted ≡ 0
+        → wait.stage ≡ Reacquiring baton slot → is_granted slot old.mutex ≡ false
         → PollsWhile F.FnMut wait waker before old result after next new → result ≡ Ok Pending }
 {}

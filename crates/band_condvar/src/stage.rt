@@ -6,7 +6,7 @@ ghost use Rattle.band_condvar.specs.Condvar.{IsCondvar, place_at, is_queued, one
 ghost use Rattle.band_condvar.specs.declared.stage.Stage.TheVariants as stages;
 ghost use Rattle.band_condvar.specs.Kept.Queue.{HasRoom};
 ghost use Rattle.band_condvar.specs.Kept.Stage.{stage_of, slot_of, Fits, GivesGuardOf, AcquireVisits};
-ghost use Rattle.band_condvar.specs.Waits.{Enqueue, Registered, IsHere, woken_by, LeavesMutex, IsRegistered, monitor, Registers, Leaves, Reacquires, PollsAt, Acquires, LeavesOthers, OthersStay, LetsGo, cancelled, may_ask, PollVisits, CancelVisits, unlock_visits};
+ghost use Rattle.band_condvar.specs.Waits.{Enqueue, Registered, IsHere, woken_by, LeavesMutex, IsRegistered, monitor, Registers, Leaves, Reacquires, PollsAt, Acquires, LeavesOthers, OthersStay, LetsGo, cancelled, has_turn, PollVisits, CancelVisits, unlock_visits};
 ghost use Rattle.band_line.specs.Visits.{Visits};
 ghost use Rattle.band_sem.specs.Request.{Joined};
 ghost use Rattle.band_sem.specs.Laws.{KeepsOrder};
@@ -121,22 +121,23 @@ impl Stage {
         }
     }
 
-    /// Whether a poll may come to have the guard, and to wait again.
-    pub(crate) fn may_ask<L: Ledger>(
+    /// Whether a poll has the guard, where it finds memory to wait again.
+    pub(crate) fn has_turn<L: Ledger>(
         &self,
         queue: &mut Queue,
         m: &MutexState,
         steps: &mut Steps<L>,
     ) -> bool
-        requires { IsRegistered (stage_of self.now) queue.old.state }
-        ensures may { result ≡ may_ask (stage_of self.now) (monitor queue.old.state m.now) }
+        requires fits { Fits m.now.number self.now }
+        requires here { IsHere (stage_of self.now) queue.old.state m.now }
+        ensures turn { result ≡ has_turn (stage_of self.now) (monitor queue.old.state m.now) }
         ensures same { queue.new ≡ queue.old }
         ensures visits { Visits 0 1 steps.old steps.new }
     {
         match self {
             Stage::Enqueue(_) => true,
             Stage::Registered(id) => !queue.is_queued(*id, steps) && is_free(m),
-            Stage::Reacquiring { .. } => m.semaphore().granted_permits() != 0,
+            Stage::Reacquiring { request, .. } => request.is_granted(m, steps),
             Stage::Finished => false,
         }
     }

@@ -4,7 +4,7 @@ ghost use Rattle.band_base.specs.declared.poll.Poll.TheVariants as poll;
 ghost use Rattle.band_condvar.specs.Condvar.{IsCondvar};
 ghost use Rattle.band_condvar.specs.Kept.Queue.{HasRoom};
 ghost use Rattle.band_condvar.specs.Kept.Stage.{GivesGuardOf, AcquireVisits};
-ghost use Rattle.band_condvar.specs.Waits.{Enqueue, Finished, IsHere, woken_by, LeavesMutex, IsRegistered, may_ask, monitor, Registers, Acquires, Polls, LeavesOthers, OthersStay, LetsGo, cancelled, PollVisits, CancelVisits, unlock_visits};
+ghost use Rattle.band_condvar.specs.Waits.{Enqueue, Finished, IsHere, woken_by, LeavesMutex, IsRegistered, has_turn, monitor, Registers, Acquires, Polls, LeavesOthers, OthersStay, LetsGo, cancelled, PollVisits, CancelVisits, unlock_visits};
 ghost use Rattle.band_sem.specs.Laws.{KeepsOrder};
 ghost use Rattle.band_line.specs.Visits.{Visits};
 ghost use Rattle.band_sem.specs.Semaphore.{IsLawful};
@@ -83,19 +83,20 @@ impl CondWait {
         answer
     }
 
-    /// Whether a poll may come to have the guard, and to wait again.
-    pub(crate) fn may_ask<L: Ledger>(
+    /// Whether a poll has the guard, where it finds memory to wait again.
+    pub(crate) fn has_turn<L: Ledger>(
         &self,
         queue: &mut Queue,
         m: &MutexState,
         steps: &mut Steps<L>,
     ) -> bool
-        requires { IsRegistered self.now.stage queue.old.state }
-        ensures may { result ≡ may_ask self.now.stage (monitor queue.old.state m.now) }
+        requires number { self.now.of ≡ m.now.number }
+        requires here { IsHere self.now.stage queue.old.state m.now }
+        ensures turn { result ≡ has_turn self.now.stage (monitor queue.old.state m.now) }
         ensures same { queue.new ≡ queue.old }
         ensures visits { Visits 0 1 steps.old steps.new }
     {
-        self.stage.may_ask(queue, m, steps)
+        self.stage.has_turn(queue, m, steps)
     }
 
     /// Has the guard, or polls for it. Room that was made is still there.

@@ -45,7 +45,7 @@ impl<F> CondWaitWhile<F> {
     }
 
     /// Asks the condition about the value whenever the mutex is had: it is ready where that answers false, and else it
-    /// waits. A poll that may ask makes all its room before, for which it may take memory.
+    /// waits. A poll in its turn makes all its room before, for which it may take memory.
     pub fn poll<T, L: Ledger>(
         &mut self,
         cv: &mut Condvar,
@@ -74,7 +74,7 @@ impl<F> CondWaitWhile<F> {
         ensures whole { IsWhole 1 m.new }
         ensures visits { WhileVisits m.old m.new steps.old steps.new }
     {
-        if !self.wait.may_ask(&mut cv.queue, m, steps) {
+        if !self.wait.has_turn(&mut cv.queue, m, steps) {
             return self.wait.poll(cv, m, waker, steps);
         }
         if cv.queue.reserve().is_err() {
@@ -83,7 +83,7 @@ impl<F> CondWaitWhile<F> {
         }
         match self.wait.acquire(&mut cv.queue, m, waker, steps)? {
             Poll::Ready(guard) => Ok(self.ask(guard, &mut cv.queue, m, value, waker, steps)),
-            Poll::Pending => Ok(Poll::Pending),
+            Poll::Pending => unreachable!(),
         }
     }
 
