@@ -1,5 +1,5 @@
 -- A lazy cell: a value or none, the one attempt at it, and the permit of its calls.
-use Rattle.std.specs.Prelude.{◌≡◌, ◌≢◌, ℕ, Bool, true, false, MatchBool, Option, Some, None, is_some, Result, Ok, Err}
+use Rattle.std.specs.Prelude.{◌≡◌, ◌≢◌, ◌⊎◌, ℕ, Bool, true, false, MatchBool, Option, Some, None, is_some, Result, Ok, Err}
 use Rattle.band_base.specs.declared.poll.Poll.{Poll}
 use Rattle.band_base.specs.declared.poll.Poll.TheVariants.{Ready, Pending}
 use Rattle.band_base.specs.declared.poll.PollError.{PollError}
@@ -88,3 +88,11 @@ module _ {T P F : Type 0} (post : F → P → Type 0) (moves : P → ℕ → Res
       MatchBool (is_some old.value)
       ((result ≡ Ok (Ready tt)) × (is_over ≡ true) × (new ≡ old))
       (Attempts old result new × EndsBy result is_over)
+
+-- what a poll makes of an attempt that was made: it is left alone, or polled once, and is what that left of it, or done
+abbrev pub IsDriven : {T P F : Type 0} → (P → ℕ → Result (Poll T) PollError → P → Type 0) → ℕ → P → Attempt F P → Type 0
+IsDriven moves waker stored new =
+    (new ≡ Running stored)
+    ⊎ ((given : Result (Poll _) PollError) × (left : _)
+    × moves stored waker given left
+    × ((new ≡ Running left) ⊎ (new ≡ Done)))

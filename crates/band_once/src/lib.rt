@@ -9,6 +9,7 @@ mod cell_init;
 mod cell_insert;
 mod cell_mut;
 mod cell_try_init;
+pub mod laws;
 mod lazy_cell;
 mod once;
 mod once_cell;

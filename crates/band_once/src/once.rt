@@ -1,9 +1,11 @@
 //! The once.
-ghost use Rattle.std.specs.Prelude.{◌≡◌, ◌≤◌, ◌+◌, ◌↔◌, IsErrOf};
+ghost use Rattle.std.specs.Prelude.{◌≡◌, ◌≤◌, ◌+◌, ◌↔◌, true, Ok, IsTrue, IsErrOf};
+ghost use Rattle.band_base.specs.declared.poll.Poll.TheVariants as poll;
 ghost use Rattle.band_sem.specs.Whole.{IsWhole};
 ghost use Rattle.band_signal.specs.Waits as waits;
 ghost use Rattle.band_once.specs.Calls.{IsForOne, Leaves};
 ghost use Rattle.band_once.specs.Claims.{Nothing, Has, IsCounted, KeepsCounted, claim_of};
+ghost use Rattle.band_once.specs.Idle.{IsIdle};
 ghost use Rattle.band_once.specs.Once.{OnceState, new_once, is_completed, PollsOnce, HoldsOnce, Completes, TakesFirstWake};
 ghost use Rattle.band_once.specs.declared.call.CallStage.TheVariants as stage;
 
@@ -83,6 +85,13 @@ impl Once {
         self.done.count() == 0
     }
 
+    /// Whether no call waits for the permit, was granted it or holds it.
+    pub fn is_idle(&self) -> bool
+        ensures { IsTrue result ↔ IsIdle self.now.permit }
+    {
+        self.permit.available_permits() == 1
+    }
+
     /// A call that polls `init` until it is done, not polled yet.
     pub fn call_once<P: Polled<Output = ()>>(&self, init: P) -> OnceCall<P>
         ensures { result ≡ stage.NotPolled init }
@@ -117,6 +126,7 @@ impl Once {
         requires counted { IsCounted (Has token) self.old.permit }
         requires one { token.count ≡ 1 }
         ensures completes { Completes self.old self.new }
+        ensures completed { is_completed self.new ≡ true }
         ensures counted { KeepsCounted (Has token) Nothing self.old.permit self.new.permit }
         ensures whole { IsWhole 1 self.new.permit }
     {
@@ -135,6 +145,7 @@ impl<P: Polled<Output = ()>> OnceCall<P> {
     ) -> Result<Poll<()>, PollError>
         requires { IsCounted (claim_of self.old) once.old.permit }
         ensures polls { PollsOnce P.moves waker.0 self.old once.old result self.new once.new }
+        ensures completed { result ≡ Ok (poll.Ready tt) → is_completed once.new ≡ true }
         ensures finished { IsErrOf result PollError.Finished ↔ (self.old ≡ stage.Finished) }
         // Its permit is never closed.
         ensures never_closed { IsErrOf result PollError.Closed → ⊥ }
@@ -168,6 +179,7 @@ impl<P: Polled<Output = ()>> OnceCall<P> {
         requires one { token.count ≡ 1 }
         ensures never_closed { IsErrOf result PollError.Closed → ⊥ }
         ensures holds { HoldsOnce P.moves waker.0 token init once.old result self.new once.new }
+        ensures completed { result ≡ Ok (poll.Ready tt) → is_completed once.new ≡ true }
         ensures counted { KeepsCounted (Has token) (claim_of self.new) once.old.permit once.new.permit }
         ensures whole { IsWhole 1 once.new.permit }
     {
