@@ -6,6 +6,8 @@ use Rattle.band_base.specs.Device.{AppendsPrefix}
 use Rattle.band_play.specs.declared.fault.PlayFault.{PlayFault}
 use Rattle.band_play.specs.declared.fault.PlayFault.TheVariants as faults
 use Rattle.band_play.specs.Play.{End, HasFailed, Gave, Comes, Answers, KeepsUp, Plays}
+use Rattle.band_play.specs.Visits.{VisitsFew}
+use Rattle.band_rules.specs.Joined.{joiners_of}
 use Rattle.band_rules.specs.Script.{Verdict, Good, Malformed, TooLong, verdict, calls_within, transcript}
 use Rattle.band_uses.specs.Outcome.{AllRead, answer_of}
 
@@ -60,3 +62,13 @@ says_outcome (Err faults.TooLong) limit source sink plays reads writes bytes tel
 says_outcome (Err faults.Read) limit source sink plays reads writes bytes tells = absurd (reads plays.answers.0)
 says_outcome (Err faults.Write) limit source sink plays reads writes bytes tells = absurd (writes plays.answers)
 says_outcome (Err faults.NoMemory) limit source sink plays reads writes bytes tells = inr refl
+
+-- who was visited, but where there was no memory
+pub says_joined : (answer : Result ℕ PlayFault) (limit : ℕ) (first last : Option (List ℕ)) (before after : ℕ) → VisitsFew limit first last answer before after → (answer ≡ Err faults.NoMemory → ⊥)
+    → Gave (λ given. before + joiners_of (calls_within limit given) ≤ after) first last
+says_joined (Ok lines) limit first last before after few other = few.joined
+says_joined (Err faults.NoMemory) limit first last before after few other = absurd (other refl)
+says_joined (Err (faults.Malformed line)) limit first last before after few other = few.joined
+says_joined (Err faults.TooLong) limit first last before after few other = few.joined
+says_joined (Err faults.Read) limit first last before after few other = few.joined
+says_joined (Err faults.Write) limit first last before after few other = few.joined

@@ -1,6 +1,7 @@
 //! What the promises of `play` and of the program say, clause by clause.
 ghost use Rattle.std.specs.Prelude.{◌≡◌, ℕ, ◌+◌, ◌*◌, ◌<◌, ◌≤◌, ◌⊎◌, List, [], ◌∷◌, ◌++◌, length, map, string_bytes, OnOk, IfOk, Some, Err};
 ghost use Rattle.band_base.specs.Device.{AppendsPrefix, Rose};
+ghost use Rattle.band_rules.specs.Joined.{joiners_of};
 ghost use Rattle.band_rules.specs.Script.{Good, Malformed, TooLong, verdict, calls_within, transcript};
 ghost use Rattle.band_play.specs.Play.{Gave, Comes, PlaysGiven, KeepsUp, Told, AskToPlay, AreOthers, IsStatus, end_of, program_limit};
 ghost use Rattle.band_play.specs.Text.{fault_text, usage_text};
@@ -35,7 +36,12 @@ pub fn play_script<S: Source, D: Sink, L: Ledger>(
         (S.left src.old) (S.left src.new) }
     ensures write { result ≡ Err PlayFault.Write → Rose (D.faults dst.old) (D.faults dst.new) }
     ensures visits { IfOk result (λ lines. steps.new ≤ steps.old + 16 * lines) }
+    ensures joins { (result ≡ Err PlayFault.NoMemory → ⊥) →
+        Gave (λ given. steps.old + joiners_of (calls_within limit given) ≤ steps.new)
+        (S.left src.old) (S.left src.new) }
     // Whatever the answer is.
+    ensures few { Gave (λ given. steps.new ≤ steps.old + 16 * length (calls_within limit given))
+        (S.left src.old) (S.left src.new) }
     ensures takes { Gave (λ given. length given ≤ limit + 1) (S.left src.old) (S.left src.new) }
     ensures front { Gave (λ given.
         AppendsPrefix (transcript (calls_within limit given)) (D.written dst.old) (D.written dst.new))

@@ -1,5 +1,5 @@
 use Rattle.band_play.specs.declared.fault.PlayFault.TheVariants as faults
-use Rattle.band_uses.proofs.PlayLemmas.{says_ok, says_all_read, says_fault, says_outcome, takes_of, front_of}
+use Rattle.band_uses.proofs.PlayLemmas.{says_ok, says_all_read, says_fault, says_outcome, says_joined, takes_of, front_of}
 use Rattle.band_uses.proofs.promises.play_script.Goals as goal
 
 pub returns-clause-ok : goal.returns-clause-ok
@@ -25,6 +25,9 @@ returns-clause-stops g c = λ is. (says_fault c.play.result faults.Read _ _ _ c.
 
 pub returns-clause-write : goal.returns-clause-write
 returns-clause-write g c = λ is. says_fault c.play.result faults.Write _ _ _ c.play.ensures.plays is
+
+pub returns-clause-joins : goal.returns-clause-joins
+returns-clause-joins g c = says_joined c.play.result _ _ _ _ _ c.play.ensures.visits
 
 pub returns-clause-takes : goal.returns-clause-takes
 returns-clause-takes g c = takes_of _ _ _ _ _ c.play.ensures.plays.keeps_up
