@@ -52,5 +52,6 @@ pub fn registrations_stand()
 /// What a countdown and a group wait for stays once it has come.
 pub fn zero_stays()
     ensures countdown { (n : ℕ) (old : Countdown) → is_at_zero old ≡ true → is_at_zero (arrived n old) ≡ true }
+    ensures decrement { (n : ℕ) (old : Countdown) → is_at_zero old ≡ true → is_at_zero (decremented n old) ≡ true }
     ensures group { (old : Group) → is_deserted old ≡ true → is_deserted (without_handle old) ≡ true }
 {}

@@ -26,7 +26,8 @@ impl Model for ShutdownState {
     ghost view = { λ s. record { request = s.request; guards = s.guards } };
 }
 
-/// Who shuts down, and waits until no guard is left. It must be ended by `cancel` or `lose`. Ports `Shutdown`.
+/// A wait until no guard is left, of which each poll that is not refused requests shutdown. Before its first poll it
+/// has requested nothing. It must be ended by `cancel` or `lose`. Ports `Shutdown`.
 pub struct Shutdown {
     wait: Wait,
 }

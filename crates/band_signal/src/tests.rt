@@ -1,5 +1,6 @@
 //! What no clause says: that calls succeed, in small lives of each machine, and the texts of errors.
-ghost use Rattle.std.specs.Prelude.{◌≡◌, ◌<◌, Some};
+ghost use Rattle.std.specs.Prelude.{◌≡◌, ◌<◌, Some, Ok, true};
+ghost use Rattle.band_base.specs.declared.poll.Poll.TheVariants as poll;
 ghost use Rattle.band_signal.specs.Completion.{told};
 
 use crate::*;
@@ -94,6 +95,49 @@ fn barrier_ends<L: Ledger, R: Abort>(rt: &R, alloc: Global, blank: Blank)
     let mut wait = alone.wait();
     assert!(rt; leads(wait.poll(&mut alone, Waker(3), &mut steps)));
     wait.lose();
+}
+
+/// An arrival before the last.
+fn arrives<R: Abort>(rt: &R, answer: Result<Poll<BarrierWaitResult>, PollError>)
+    ensures { answer ≡ Ok poll.Pending }
+{
+    match answer {
+        Ok(Poll::Pending) => {}
+        Ok(Poll::Ready(_result)) => panic!(rt; "it was to wait"),
+        Err(error) => panic!(rt; "{error}"),
+    }
+}
+
+/// The third of three ends the generation, and leads it alone.
+fn three_meet<L: Ledger, R: Abort>(rt: &R, alloc: Global, blank: Blank)
+    requires name { blank.name ≡ L.name }
+    requires parts { blank.parts ≡ L.parts }
+    requires some { 0 < blank.parts }
+{
+    let mut steps: Steps<L> = Steps::new(blank);
+    let mut barrier = Barrier::new(alloc, 3);
+    let mut first = barrier.wait();
+    let mut second = barrier.wait();
+    let mut third = barrier.wait();
+    arrives(rt, first.poll(&mut barrier, Waker(1), &mut steps));
+    arrives(rt, second.poll(&mut barrier, Waker(2), &mut steps));
+    assert_eq!(rt; number(barrier.take_wake()), 0);
+    assert!(rt; leads(third.poll(&mut barrier, Waker(3), &mut steps)));
+    assert_eq!(rt; number(barrier.take_wake()), 1);
+    assert_eq!(rt; number(barrier.take_wake()), 2);
+    assert_eq!(rt; number(barrier.take_wake()), 0);
+    assert!(rt; follows(first.poll(&mut barrier, Waker(1), &mut steps)));
+    assert!(rt; follows(second.poll(&mut barrier, Waker(2), &mut steps)));
+    first.lose();
+    second.lose();
+    third.lose();
+}
+
+fn follows(answer: Result<Poll<BarrierWaitResult>, PollError>) -> bool {
+    match answer {
+        Ok(Poll::Ready(result)) => !result.is_leader(),
+        _ => false,
+    }
 }
 
 fn leads(answer: Result<Poll<BarrierWaitResult>, PollError>) -> bool {
@@ -247,6 +291,7 @@ fn the_latch_opens(rt: HostRuntime) {
 #[test]
 fn the_barrier_ends(rt: HostRuntime) {
     barrier_ends::<Brand, HostRuntime>(&rt, rt.alloc(), Blank::new(1));
+    three_meet::<Brand, HostRuntime>(&rt, rt.alloc(), Blank::new(1));
 }
 
 #[test]
@@ -272,6 +317,8 @@ fn values_are_copied(rt: HostRuntime) -> Result<(), Fail> {
     let abandoned = Abandoned;
     let copy = abandoned;
     assert!(rt; copy == abandoned);
+    let clone: Result<_, _> = abandoned.clone();
+    assert!(rt; clone? == abandoned);
     let (state, shutdown, guard) = ShutdownState::new(rt.alloc(), 7);
     let watch = state.watch(&guard);
     let copy: Result<_, _> = watch.clone();
