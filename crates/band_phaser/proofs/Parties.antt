@@ -1,12 +1,12 @@
 -- A phaser counts all that are registered.
-use Rattle.std.proofs.Common.{◌≡◌, ◌≢◌, refl, ℕ, zero, suc, ◌+◌, ◌-◌, ◌≤◌, List, [], ◌∷◌, ◌++◌, length, Bool, true, false, not, arith, ap, sym, ◌∙◌, subst, Option, Some, None}
+use Rattle.std.proofs.Common.{◌≡◌, ◌≢◌, refl, ℕ, zero, suc, ◌+◌, ◌-◌, ◌≤◌, List, [], ◌∷◌, ◌++◌, length, Bool, true, false, not, arith, ap, sym, ◌∙◌, subst, Option, Some, None, ◌<◌}
 use Rattle.std.specs.Prelude.{◌==◌, ◌&&◌, count_by, cond, replicate, Result}
 use Rattle.std.proofs.Common.{length-append}
 use Rattle.std.proofs.lemmas.Bool.Decides.{nat_tests}
 use Rattle.std.proofs.lemmas.List.Sums.{sum_by-cons, sum_by-append, count_by-le-length}
 use Rattle.std.proofs.lemmas.List.{length-replicate}
 use Rattle.std.proofs.lemmas.List.Folds.{sum_by-replicate}
-use Rattle.band_phaser.specs.Phaser.{PhaserState, Batch, IsCounted, is_outstanding, new_phaser, next_phase, settled, others_outstanding, arrived, withdrawn}
+use Rattle.band_phaser.specs.Phaser.{PhaserState, Batch, NextGives, IsCounted, is_outstanding, new_phaser, next_phase, settled, others_outstanding, arrived, withdrawn}
 use Rattle.band_phaser.specs.Phaser.{with_parties, without_parties, closed_after, PhaserWaitState, Participant, PollsParticipant, IsPendingFor}
 use Rattle.band_base.specs.declared.poll.Poll.{Poll}
 use Rattle.band_base.specs.declared.poll.PollError.{PollError}
@@ -190,6 +190,23 @@ yields_all (suc n) first last (next, gives, rest) =
     let others = yields_all n next last rest in
     let fewer = gives.1.2 in
     omega arith
+
+pub yields-each : (n : ℕ) (first last end : Batch) → Yields n first last → NextGives last None end → n ≡ first.remaining
+yields-each n first last end h none =
+    let all = yields_all n first last h in
+    let empty = none.0 in
+    omega arith
+
+pub counts-once : (phaser : PhaserState) → 0 < phaser.outstanding → arrived (Some phaser.phase) phaser ≡ phaser
+counts-once phaser some =
+    let here : (phaser.phase == phaser.phase) ≡ true = grind (arith, nat_tests) in
+    let others : (phaser.outstanding == 0) ≡ false = grind (arith, nat_tests) in
+    by_closed phaser.is_closed refl here others
+  where
+    by_closed : (b : Bool) → phaser.is_closed ≡ b → (phaser.phase == phaser.phase) ≡ true → (phaser.outstanding == 0) ≡ false
+        → arrived (Some phaser.phase) phaser ≡ phaser
+    by_closed true e here others = rw here (rw e refl)
+    by_closed false e here others = rw here (rw e (rw others refl))
 
 pub keeps_waits : (parties : List (Option ℕ)) (phaser : PhaserState) (waits : Waits) → CountsAll parties phaser
     → CountsAll parties (record phaser { waits = waits })

@@ -1,5 +1,5 @@
 //! Laws of who is registered.
-ghost use Rattle.std.specs.Prelude.{◌≡◌, ◌≢◌, ◌≤◌, ◌+◌, ◌++◌, ◌∷◌, [], ℕ, true, false, List, Option, Some, None, Result, replicate};
+ghost use Rattle.std.specs.Prelude.{◌≡◌, ◌≢◌, ◌≤◌, ◌<◌, ◌+◌, ◌++◌, ◌∷◌, [], ℕ, true, false, List, Option, Some, None, Result, replicate};
 ghost use Rattle.band_base.specs.declared.poll.Poll.{Poll as ThePoll};
 ghost use Rattle.band_base.specs.declared.poll.PollError.{PollError as TheError};
 ghost use Rattle.band_base.specs.declared.waker.Waker.{Waker as TheWaker};
@@ -56,8 +56,15 @@ pub fn each_is_counted()
         → CountsAll (replicate n None ++ parties) phaser → n ≤ phaser.outstanding }
 {}
 
-/// A batch yields as many participants as are left in it, and then none.
+/// A participant counts once in a phase: that it arrives again changes nothing, since others are outstanding then.
+pub fn arrivals_count_once()
+    ensures again { (phaser : PhaserState) → 0 < phaser.outstanding → arrived (Some phaser.phase) phaser ≡ phaser }
+{}
+
+/// A batch yields as many participants as are left in it, and then none, again and again.
 pub fn batches_yield_what_is_left()
     ensures left { (n : ℕ) (first last : Batch) → Yields n first last → n + last.remaining ≡ first.remaining }
-    ensures none { (first last : Batch) → NextGives first None last → first.remaining ≡ 0 }
+    ensures none { (first last : Batch) → NextGives first None last → (first.remaining ≡ 0) × (last ≡ first) }
+    ensures all { (n : ℕ) (first last end : Batch) → Yields n first last → NextGives last None end
+        → n ≡ first.remaining }
 {}

@@ -80,6 +80,36 @@ fn phase_wraps<L: Ledger, R: Abort>(rt: &R, alloc: Global, blank: Blank)
     party.lose();
 }
 
+/// One that has arrived waits for the end of its phase, and the arrival of the other releases it.
+fn one_waits_after_it_arrived<L: Ledger, R: Abort>(rt: &R, alloc: Global, blank: Blank)
+    requires name { blank.name ≡ L.name }
+    requires parts { blank.parts ≡ L.parts }
+    requires some { 0 < blank.parts }
+{
+    let mut steps: Steps<L> = Steps::new(blank);
+    let mut ph = Phaser::new(alloc, 5);
+    let mut first = one(rt, &mut ph);
+    let mut second = one(rt, &mut ph);
+    assert_eq!(rt; first.arrive(&mut ph), Ok(0));
+    let mut wait = first.wait();
+    assert_eq!(rt;
+        told(wait.poll(&mut first, &mut ph, Waker(1), &mut steps)),
+        10
+    );
+    assert_eq!(rt; ph.arrived_parties(), 1);
+    assert_eq!(rt; second.arrive(&mut ph), Ok(0));
+    assert_eq!(rt; number(ph.take_wake()), 1);
+    assert_eq!(rt; number(ph.take_wake()), 0);
+    assert_eq!(rt;
+        told(wait.poll(&mut first, &mut ph, Waker(1), &mut steps)),
+        1
+    );
+    assert_eq!(rt; ph.unarrived_parties(), 2);
+    wait.lose();
+    first.lose();
+    second.lose();
+}
+
 /// The other of two leaves an open phaser, which ends the phase and wakes the first.
 fn two_meet<L: Ledger, R: Abort>(rt: &R, alloc: Global, blank: Blank)
     requires name { blank.name ≡ L.name }
@@ -181,6 +211,7 @@ fn the_phase_wraps(rt: HostRuntime) {
 #[test]
 fn participants_come_and_go(rt: HostRuntime) {
     two_meet::<Brand, HostRuntime>(&rt, rt.alloc(), Blank::new(1));
+    one_waits_after_it_arrived::<Brand, HostRuntime>(&rt, rt.alloc(), Blank::new(1));
     batch_leaves(&rt, rt.alloc());
     closed_refuses(&rt, rt.alloc());
     count_is_full(&rt, rt.alloc());
@@ -191,6 +222,8 @@ fn errors_have_texts(rt: HostRuntime) -> Result<(), Fail> {
     let closed = Closed;
     let copy = closed;
     assert!(rt; copy == closed);
+    let clone: Result<_, _> = closed.clone();
+    assert!(rt; clone? == closed);
     assert_eq!(rt; closed.to_string(rt.alloc())?.as_str(), "Phaser is closed");
     for (error, text) in [
         (PhaserError::Closed, "Phaser is closed"),
