@@ -37,7 +37,7 @@ pub(crate) fn tell_call<L: Ledger>(
     ensures visits { Pays (load_of player.old) (load_of player.new) steps.old steps.new }
     ensures joins { OnOk result (VisitsJoiners call player.old steps.old steps.new) }
 {
-    let reply = player.run(call, steps)?;
+    let reply = player.step(&call, steps)?;
     push_reply(text, &reply)?;
     push_wakes(player, text)
 }

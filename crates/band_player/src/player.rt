@@ -34,6 +34,7 @@ impl Player {
     }
 
     /// Runs one line of a script.
+    #[tactic(auto, using(crate::proofs::Lawful::keeps_laws))]
     pub fn step<L: Ledger>(
         &mut self,
         call: &Call,
@@ -51,22 +52,6 @@ impl Player {
         ensures lawful { KeepsLaws self.new }
         ensures visits { Pays (load_of self.old) (load_of self.new) steps.old steps.new }
         ensures joins { OnOk result (VisitsJoiners call.now self.old steps.old steps.new) }
-    {
-        self.run(call.copy(), steps)
-    }
-
-    /// Runs one line of a script, as `step` does, and uses the call up. A name that it makes is moved into the table.
-    #[tactic(auto, using(crate::proofs::Lawful::keeps_laws))]
-    pub fn run<L: Ledger>(&mut self, call: Call, steps: &mut Steps<L>) -> Result<Reply, AllocError>
-        requires quiet { wakers_left self.old ≡ [] }
-        requires readers { ForReaders call }
-        ensures follows { IfOk result (λ reply. Follows call self.old reply self.new) }
-        ensures err { OnErr result (Stays self.old self.new × (wakers_left self.new ≡ [])) }
-        ensures works { OnErr result (Works call self.old) }
-        ensures succeeds { TakesNoMemory call → IsOk result }
-        ensures lawful { KeepsLaws self.new }
-        ensures visits { Pays (load_of self.old) (load_of self.new) steps.old steps.new }
-        ensures joins { OnOk result (VisitsJoiners call self.old steps.old steps.new) }
     {
         self.table.run(self.alloc, call, steps)
     }

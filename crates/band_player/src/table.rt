@@ -24,6 +24,13 @@ pub(crate) struct Table {
     last: u64,
 }
 
+/// The same name again, for a map to keep. It takes no memory.
+fn copy_of(name: &Name) -> Name
+    ensures { result ≡ name.now }
+{
+    name.clone().unwrap()
+}
+
 /// The place of the object of two permits that can become one.
 fn mergeable(names: &Names, kept: &Name, spent: &Name) -> Result<u64, Refusal>
     ensures { result ≡ mergeable kept.now spent.now (thing_at names.now kept.now)
@@ -68,20 +75,20 @@ impl Table {
     }
 
     /// Makes an object.
-    pub(crate) fn make(&mut self, alloc: Global, made: Name, new: New) -> Result<Reply, AllocError>
+    pub(crate) fn make(&mut self, alloc: Global, made: &Name, new: New) -> Result<Reply, AllocError>
         requires sound { IsSound self.old }
         requires quiet { wakes_left self.old ≡ [] }
-        requires readers { ForReaders (make_call new made) }
-        ensures answered { IfOk result (λ reply. Answered (make_call new made) self.old reply self.new) }
-        ensures wanting { OnErr result (Wanting (make_call new made) self.old self.new) }
+        requires readers { ForReaders (make_call new made.now) }
+        ensures answered { IfOk result (λ reply. Answered (make_call new made.now) self.old reply self.new) }
+        ensures wanting { OnErr result (Wanting (make_call new made.now) self.old self.new) }
         ensures load { load self.new.objects.items ≡ load self.old.objects.items }
     {
-        if self.names.is_live(&made) {
+        if self.names.is_live(made) {
             return Ok(Reply::Refused(Refusal::Taken));
         }
         let place = self.objects.len() as u64;
         self.objects.reserve(1)?;
-        self.names.add_object(made, place)?;
+        self.names.add_object(copy_of(made), place)?;
         self.objects.push(Object::new(alloc, place, new)).unwrap();
         Ok(Reply::Done)
     }
@@ -90,7 +97,7 @@ impl Table {
     pub(crate) fn ask<L: Ledger>(
         &mut self,
         want: Want,
-        made: Name,
+        made: &Name,
         of: &Name,
         waker: Waker,
         steps: &mut Steps<L>,
@@ -98,8 +105,8 @@ impl Table {
         requires sound { IsSound self.old }
         requires quiet { wakes_left self.old ≡ [] }
         ensures answered { IfOk result (λ reply.
-            Answered (ask_call want made of.now waker.0) self.old reply self.new) }
-        ensures wanting { OnErr result (Wanting (ask_call want made of.now waker.0) self.old self.new) }
+            Answered (ask_call want made.now of.now waker.0) self.old reply self.new) }
+        ensures wanting { OnErr result (Wanting (ask_call want made.now of.now waker.0) self.old self.new) }
         ensures visits { Pays (load self.old.objects.items) (load self.new.objects.items)
             steps.old steps.new }
         ensures waits { result ≡ Ok Reply.Pending → steps.old < steps.new }
@@ -108,14 +115,14 @@ impl Table {
             Ok(place) => place,
             Err(refusal) => return Ok(Reply::Refused(refusal)),
         };
-        if self.names.is_live(&made) {
+        if self.names.is_live(made) {
             return Ok(Reply::Refused(Refusal::Taken));
         }
         let object = &mut self.objects[place as usize];
         if object.is_closed() {
             return Ok(Reply::Refused(Refusal::Closed));
         }
-        let reply = self.names.ask(object, want, made, waker, steps)?;
+        let reply = self.names.ask(object, want, copy_of(made), waker, steps)?;
         self.last = place;
         Ok(reply)
     }
@@ -174,19 +181,24 @@ impl Table {
     }
 
     /// Takes permits or a guard without waiting.
-    pub(crate) fn try_for(&mut self, want: Want, made: Name, of: &Name) -> Result<Reply, AllocError>
+    pub(crate) fn try_for(
+        &mut self,
+        want: Want,
+        made: &Name,
+        of: &Name,
+    ) -> Result<Reply, AllocError>
         requires sound { IsSound self.old }
         requires quiet { wakes_left self.old ≡ [] }
         ensures answered { IfOk result (λ reply.
-            Answered (try_call want made of.now) self.old reply self.new) }
-        ensures wanting { OnErr result (Wanting (try_call want made of.now) self.old self.new) }
+            Answered (try_call want made.now of.now) self.old reply self.new) }
+        ensures wanting { OnErr result (Wanting (try_call want made.now of.now) self.old self.new) }
         ensures load { load self.new.objects.items ≡ load self.old.objects.items }
     {
         let place = match self.object_for(of, want) {
             Ok(place) => place,
             Err(refusal) => return Ok(Reply::Refused(refusal)),
         };
-        if self.names.is_live(&made) {
+        if self.names.is_live(made) {
             return Ok(Reply::Refused(Refusal::Taken));
         }
         let object = &mut self.objects[place as usize];
@@ -196,7 +208,7 @@ impl Table {
         if !object.would_serve(want) {
             return Ok(Reply::Nothing);
         }
-        self.names.take(object, want, made)?;
+        self.names.take(object, want, copy_of(made))?;
         self.last = place;
         Ok(Reply::Done)
     }
@@ -319,25 +331,26 @@ impl Table {
     }
 
     /// Moves permits of the one that a name is to a new one.
-    pub(crate) fn split(&mut self, name: &Name, made: Name, n: u64) -> Result<Reply, AllocError>
+    pub(crate) fn split(&mut self, name: &Name, made: &Name, n: u64) -> Result<Reply, AllocError>
         requires sound { IsSound self.old }
         requires quiet { wakes_left self.old ≡ [] }
         ensures answered { IfOk result (λ reply.
-            Answered (calls.Split name.now made n) self.old reply self.new) }
-        ensures wanting { OnErr result (Wanting (calls.Split name.now made n) self.old self.new) }
+            Answered (calls.Split name.now made.now n) self.old reply self.new) }
+        ensures wanting { OnErr result (Wanting (calls.Split name.now made.now n) self.old self.new) }
         ensures load { load self.new.objects.items ≡ load self.old.objects.items }
     {
         let permits = match self.names.permits(name) {
             Ok(permits) => permits,
             Err(refusal) => return Ok(Reply::Refused(refusal)),
         };
-        if self.names.is_live(&made) {
+        if self.names.is_live(made) {
             return Ok(Reply::Refused(Refusal::Taken));
         }
         if permits < n {
             return Ok(Reply::Nothing);
         }
-        self.last = self.names.split(name, made, n)?;
+        let place = self.names.split(name, copy_of(made), n)?;
+        self.last = place;
         Ok(Reply::Done)
     }
 
@@ -378,55 +391,55 @@ impl Table {
         Reply::Done
     }
 
-    /// Does what a call says, and uses it up.
+    /// Does what a call says.
     pub(crate) fn run<L: Ledger>(
         &mut self,
         alloc: Global,
-        call: Call,
+        call: &Call,
         steps: &mut Steps<L>,
     ) -> Result<Reply, AllocError>
         requires sound { IsSound self.old }
         requires quiet { wakes_left self.old ≡ [] }
-        requires readers { ForReaders call }
-        ensures answered { IfOk result (λ reply. Answered call self.old reply self.new) }
-        ensures wanting { OnErr result (Wanting call self.old self.new) }
-        ensures succeeds { TakesNoMemory call → IsOk result }
+        requires readers { ForReaders call.now }
+        ensures answered { IfOk result (λ reply. Answered call.now self.old reply self.new) }
+        ensures wanting { OnErr result (Wanting call.now self.old self.new) }
+        ensures succeeds { TakesNoMemory call.now → IsOk result }
         ensures visits { Pays (load self.old.objects.items) (load self.new.objects.items)
             steps.old steps.new }
         // A new request that waits was visited.
-        ensures waits { Asks call → result ≡ Ok Reply.Pending → steps.old < steps.new }
+        ensures waits { Asks call.now → result ≡ Ok Reply.Pending → steps.old < steps.new }
     {
         match call {
-            Call::Sem { made, n } => self.make(alloc, made, New::Semaphore(n)),
+            Call::Sem { made, n } => self.make(alloc, made, New::Semaphore(*n)),
             Call::Mutex { made } => self.make(alloc, made, New::Mutex),
-            Call::Rw { made, n } => self.make(alloc, made, New::ReaderWriter(n)),
+            Call::Rw { made, n } => self.make(alloc, made, New::ReaderWriter(*n)),
             Call::Ask { made, of, n, waker } => {
-                self.ask(Want::Permits(n), made, &of, Waker(waker), steps)
+                self.ask(Want::Permits(*n), made, of, Waker(*waker), steps)
             }
             Call::Lock { made, of, waker } => {
-                self.ask(Want::Lock, made, &of, Waker(waker), steps)
+                self.ask(Want::Lock, made, of, Waker(*waker), steps)
             }
             Call::Read { made, of, waker } => {
-                self.ask(Want::Read, made, &of, Waker(waker), steps)
+                self.ask(Want::Read, made, of, Waker(*waker), steps)
             }
             Call::Write { made, of, waker } => {
-                self.ask(Want::Write, made, &of, Waker(waker), steps)
+                self.ask(Want::Write, made, of, Waker(*waker), steps)
             }
-            Call::Poll { name, waker } => Ok(self.poll(&name, Waker(waker), steps)),
-            Call::Drop { name } => Ok(self.drop_name(&name, steps)),
-            Call::Try { made, of, n } => self.try_for(Want::Permits(n), made, &of),
-            Call::TryLock { made, of } => self.try_for(Want::Lock, made, &of),
-            Call::TryRead { made, of } => self.try_for(Want::Read, made, &of),
-            Call::TryWrite { made, of } => self.try_for(Want::Write, made, &of),
-            Call::Release { of, n } => Ok(self.release(&of, n, steps)),
-            Call::Reduce { of, n } => self.reduce(&of, n, steps),
-            Call::Drain { of, n } => Ok(self.drain(&of, n)),
-            Call::Close { of } => Ok(self.close(&of, steps)),
-            Call::Downgrade { name } => Ok(self.downgrade(&name, steps)),
-            Call::Status { name } => Ok(self.status(&name)),
-            Call::Forget { name } => Ok(self.forget(&name)),
-            Call::Split { name, made, n } => self.split(&name, made, n),
-            Call::Merge { kept, spent } => Ok(self.merge(&kept, &spent)),
+            Call::Poll { name, waker } => Ok(self.poll(name, Waker(*waker), steps)),
+            Call::Drop { name } => Ok(self.drop_name(name, steps)),
+            Call::Try { made, of, n } => self.try_for(Want::Permits(*n), made, of),
+            Call::TryLock { made, of } => self.try_for(Want::Lock, made, of),
+            Call::TryRead { made, of } => self.try_for(Want::Read, made, of),
+            Call::TryWrite { made, of } => self.try_for(Want::Write, made, of),
+            Call::Release { of, n } => Ok(self.release(of, *n, steps)),
+            Call::Reduce { of, n } => self.reduce(of, *n, steps),
+            Call::Drain { of, n } => Ok(self.drain(of, *n)),
+            Call::Close { of } => Ok(self.close(of, steps)),
+            Call::Downgrade { name } => Ok(self.downgrade(name, steps)),
+            Call::Status { name } => Ok(self.status(name)),
+            Call::Forget { name } => Ok(self.forget(name)),
+            Call::Split { name, made, n } => self.split(name, made, *n),
+            Call::Merge { kept, spent } => Ok(self.merge(kept, spent)),
         }
     }
 

@@ -22,30 +22,10 @@ fn one_step<L: Ledger>(alloc: Global, call: &Call, blank: Blank) -> Result<bool,
     Ok(matches!(reply, Reply::Done) && woken.is_none())
 }
 
-fn one_run<L: Ledger>(alloc: Global, call: Call, blank: Blank) -> Result<bool, AllocError>
-    requires readers { ForReaders call }
-    requires name { blank.name ≡ L.name }
-    requires parts { blank.parts ≡ L.parts }
-    requires some { 0 < blank.parts }
-{
-    let mut steps = Steps::<L>::new(blank);
-    let mut player = Player::new(alloc);
-    let reply = player.run(call, &mut steps)?;
-    let woken = player.take_wake();
-    Ok(matches!(reply, Reply::Done) && woken.is_none())
-}
-
 #[test]
 fn steps_once(rt: HostRuntime) -> Result<(), Fail> {
     let made = Name::from_word(b"s").ok_or("no name")?;
     let call = Call::Sem { made, n: 1 };
     assert!(rt; one_step::<Brand>(rt.alloc(), &call, Blank::new(1))?);
-    Ok(())
-}
-
-#[test]
-fn runs_once(rt: HostRuntime) -> Result<(), Fail> {
-    let made = Name::from_word(b"s").ok_or("no name")?;
-    assert!(rt; one_run::<Brand>(rt.alloc(), Call::Sem { made, n: 1 }, Blank::new(1))?);
     Ok(())
 }
