@@ -2,6 +2,7 @@
 //! of visits, and the devices that bytes come from and go to.
 #![tactic(auto)]
 
+mod clock;
 mod failures;
 mod poll;
 mod polled;
@@ -14,6 +15,7 @@ mod tests;
 mod wake_line;
 mod waker;
 
+pub use clock::{Clock, ListClock, RealClock};
 pub use poll::{Poll, PollError};
 pub use polled::Polled;
 pub use refusal::Refusal;

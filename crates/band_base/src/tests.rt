@@ -239,3 +239,23 @@ fn errors_have_texts(rt: HostRuntime) -> Result<(), Fail> {
     );
     Ok(())
 }
+
+fn moment_of<C: Clock>(clock: &mut C) -> u64 {
+    clock.now()
+}
+
+#[test]
+fn moments_come_in_order(rt: HostRuntime) {
+    let mut clock = ListClock::new(&[3, 9, 4]);
+    for wanted in [3, 9, 4, 4, 4] {
+        assert_eq!(rt; moment_of(&mut clock), wanted);
+    }
+}
+
+#[test]
+fn the_system_tells_the_moment(rt: HostRuntime) {
+    let mut clock = RealClock::new(&rt);
+    let first = moment_of(&mut clock);
+    assert!(rt; first > 0);
+    assert!(rt; moment_of(&mut clock) >= first);
+}
