@@ -9,6 +9,7 @@ pub mod devices;
 pub mod ids;
 pub mod lines;
 pub mod locks;
+pub mod parts;
 pub mod places;
 pub mod promises;
 pub mod refusals;
