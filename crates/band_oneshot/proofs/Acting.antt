@@ -13,7 +13,7 @@ use Rattle.band_oneshot.specs.declared.view.ReceiverView.{ReceiverView}
 use Rattle.band_oneshot.specs.declared.view.View.{View}
 use Rattle.band_oneshot.specs.declared.view.View.TheVariants as view
 use Rattle.band_oneshot.specs.Ends.{shown, Took, Passed}
-use Rattle.band_oneshot.specs.Kept.Rule.{Slot, Seated, message_home, waker_home, Kept, Holds, IsLawful}
+use Rattle.band_oneshot.specs.Kept.Rule.{Slot, Seated, message_home, waker_home, Kept, Holds, ObeysRule}
 use Rattle.band_oneshot.specs.Stages.{is_idle}
 use Rattle.band_oneshot.specs.Runs.{SenderRuns, ReceiverRuns}
 use Rattle.band_oneshot.specs.Step.{after_all}
@@ -63,7 +63,7 @@ module _ {T : Type 0} (f : ℕ → ℕ) (then : ℕ → Seated T → Type 0) whe
   sender_at v c acts ws hs vs id k e = absurd k
 
   pub sender_allows : (slots id : ℕ) (m : Seated T) (v : SenderView T) → m.0 ≡ view.Sends v → ((word : ℕ) → SenderActs v m.1 word)
-      → Allows IsLawful slots id m 0 f then
+      → Allows ObeysRule slots id m 0 f then
   sender_allows slots id m v is acts s holds wide at fits =
       sender_at v m.1 acts s.words s.homes s.views id holds (at ∙ ap some is)
 
@@ -81,7 +81,7 @@ module _ {T : Type 0} (f : ℕ → ℕ) (then : ℕ → Seated T → Type 0) whe
   receiver_at v c acts ws hs vs id k e = absurd k
 
   pub receiver_allows : (slots id : ℕ) (m : Seated T) (v : ReceiverView T) → m.0 ≡ view.Receives v
-      → ((word : ℕ) → ReceiverActs v m.1 word) → Allows IsLawful slots id m 0 f then
+      → ((word : ℕ) → ReceiverActs v m.1 word) → Allows ObeysRule slots id m 0 f then
   receiver_allows slots id m v is acts s holds wide at fits =
       receiver_at v m.1 acts s.words s.homes s.views id holds (at ∙ ap some is)
 

@@ -8,7 +8,7 @@ use Rattle.atomic_table.specs.Table.{Act, takes, Valid, homes_after, carried_aft
 use Rattle.band_oneshot.specs.declared.view.View.{View}
 use Rattle.band_oneshot.specs.declared.view.View.TheVariants as view
 use Rattle.band_oneshot.specs.Kept.Plays.{Prepares}
-use Rattle.band_oneshot.specs.Kept.Rule.{Slot, Seated, Holds, IsLawful}
+use Rattle.band_oneshot.specs.Kept.Rule.{Slot, Seated, Holds, ObeysRule}
 
 module _ {T : Type 0} where
   abbrev start : Seated T
@@ -33,6 +33,6 @@ module _ {T : Type 0} where
   prepares_at (word ∷ []) (h0 ∷ h1 ∷ []) (view.Sends s ∷ view.Receives r ∷ []) (suc (suc id)) k e = cc
   prepares_at ws hs vs id k e = absurd k
 
-  pub prepares_allows : (slots id : ℕ) (m : Seated T) → m ≡ (view.Whole false, []) → Allows IsLawful slots id m 0 (λ n. n) (Prepares m)
-  prepares_allows slots id m is = subst (λ (x : Seated T). Allows IsLawful slots id x 0 (λ n. n) (Prepares x)) (sym is)
+  pub prepares_allows : (slots id : ℕ) (m : Seated T) → m ≡ (view.Whole false, []) → Allows ObeysRule slots id m 0 (λ n. n) (Prepares m)
+  prepares_allows slots id m is = subst (λ (x : Seated T). Allows ObeysRule slots id x 0 (λ n. n) (Prepares x)) (sym is)
       (λ s holds wide at fits. prepares_at s.words s.homes s.views id holds at)

@@ -22,7 +22,7 @@ use Rattle.band_oneshot.specs.declared.view.View.{View}
 use Rattle.band_oneshot.specs.declared.view.View.TheVariants as view
 use Rattle.band_oneshot.specs.Ends.{Agree, message_at, waker_at, receiver_looked, poll_looked, cancel_looked, swapped, stored, received, left, fetched, awaking_ended, empty_ended}
 use Rattle.band_oneshot.specs.Kept.Plays.{receiver_of, ReceiverFinds, TakesMessage, ReceiverLooks, PollLooks, CancelLooks, Swaps, Stores, Leaves, Fetches, EndsAwaking, EndsEmpty}
-use Rattle.band_oneshot.specs.Kept.Rule.{Slot, Seated, message_home, waker_home, Kept, IsLawful}
+use Rattle.band_oneshot.specs.Kept.Rule.{Slot, Seated, message_home, waker_home, Kept, ObeysRule}
 use Rattle.band_oneshot.specs.Kept.Seats.{MayWait, MayCancel}
 use Rattle.band_oneshot.specs.Runs.{counts_as, ReceiverRuns}
 use Rattle.band_oneshot.specs.Stages.{is_idle, is_left}
@@ -77,8 +77,8 @@ module _ {T : Type 0} where
   message_home_gone sent.Gone = refl
 
   pub receiver_looks_allows : (slots id : ℕ) (m : Seated T) (v : ReceiverView T) (c : List (ℕ × Slot T)) → m ≡ (view.Receives v, c)
-      → (v.stage ≡ receiver.Plain) ⊎ (v.stage ≡ receiver.Waiting) → Allows IsLawful slots id m 0 (λ n. n) (ReceiverLooks m)
-  receiver_looks_allows slots id m v c is on = subst (λ (x : Seated T). Allows IsLawful slots id x 0 (λ n. n) (ReceiverLooks x)) (sym is)
+      → (v.stage ≡ receiver.Plain) ⊎ (v.stage ≡ receiver.Waiting) → Allows ObeysRule slots id m 0 (λ n. n) (ReceiverLooks m)
+  receiver_looks_allows slots id m v c is on = subst (λ (x : Seated T). Allows ObeysRule slots id x 0 (λ n. n) (ReceiverLooks x)) (sym is)
       (receiver_allows (λ n. n) (ReceiverLooks (view.Receives v, c)) slots id (view.Receives v, c) v refl acts)
     where
       acts : (word : ℕ) → ReceiverActs (λ n. n) (ReceiverLooks (view.Receives v, c)) v c word
@@ -138,8 +138,8 @@ module _ {T : Type 0} where
   pub poll_looks_allows : (slots id : ℕ) (m : Seated T) (v : ReceiverView T) (c : List (ℕ × Slot T)) → m ≡ (view.Receives v, c)
       → (v.stage ≡ receiver.Plain) ⊎ (v.stage ≡ receiver.Waiting)
       → (v.stage ≡ receiver.Plain → sender_makes v.word EMPTY ≡ true → v.waker ≡ slot.Unused)
-      → Allows IsLawful slots id m 0 (λ n. n) (PollLooks m)
-  poll_looks_allows slots id m v c is on fresh = subst (λ (x : Seated T). Allows IsLawful slots id x 0 (λ n. n) (PollLooks x)) (sym is)
+      → Allows ObeysRule slots id m 0 (λ n. n) (PollLooks m)
+  poll_looks_allows slots id m v c is on fresh = subst (λ (x : Seated T). Allows ObeysRule slots id x 0 (λ n. n) (PollLooks x)) (sym is)
       (receiver_allows (λ n. n) (PollLooks (view.Receives v, c)) slots id (view.Receives v, c) v refl (poll_acts v c on fresh))
 
   module _ (v : ReceiverView T) (c : List (ℕ × Slot T))
@@ -192,8 +192,8 @@ module _ {T : Type 0} where
 
   pub cancel_looks_allows : (slots id : ℕ) (m : Seated T) (v : ReceiverView T) (c : List (ℕ × Slot T)) → m ≡ (view.Receives v, c)
       → (v.stage ≡ receiver.Plain) ⊎ ((v.stage ≡ receiver.Waiting) ⊎ (v.stage ≡ receiver.Cancelling))
-      → Allows IsLawful slots id m 0 (λ n. n) (CancelLooks m)
-  cancel_looks_allows slots id m v c is on = subst (λ (x : Seated T). Allows IsLawful slots id x 0 (λ n. n) (CancelLooks x)) (sym is)
+      → Allows ObeysRule slots id m 0 (λ n. n) (CancelLooks m)
+  cancel_looks_allows slots id m v c is on = subst (λ (x : Seated T). Allows ObeysRule slots id x 0 (λ n. n) (CancelLooks x)) (sym is)
       (receiver_allows (λ n. n) (CancelLooks (view.Receives v, c)) slots id (view.Receives v, c) v refl (cancel_acts v c on))
 
   module _ (v : ReceiverView T) (c : List (ℕ × Slot T)) (on : v.stage ≡ receiver.Plain) where
@@ -227,8 +227,8 @@ module _ {T : Type 0} where
     ]
 
   pub swaps_allows : (slots id : ℕ) (m : Seated T) (v : ReceiverView T) (c : List (ℕ × Slot T)) → m ≡ (view.Receives v, c)
-      → v.stage ≡ receiver.Plain → Allows IsLawful slots id m 0 (λ _. DISCONNECTED) (Swaps m)
-  swaps_allows slots id m v c is on = subst (λ (x : Seated T). Allows IsLawful slots id x 0 (λ _. DISCONNECTED) (Swaps x)) (sym is)
+      → v.stage ≡ receiver.Plain → Allows ObeysRule slots id m 0 (λ _. DISCONNECTED) (Swaps m)
+  swaps_allows slots id m v c is on = subst (λ (x : Seated T). Allows ObeysRule slots id x 0 (λ _. DISCONNECTED) (Swaps x)) (sym is)
       (receiver_allows (λ _. DISCONNECTED) (Swaps (view.Receives v, c)) slots id (view.Receives v, c) v refl (swap_acts v c on))
 
   module _ (v : ReceiverView T) (c : List (ℕ × Slot T)) (on : (v.stage ≡ receiver.Plain) ⊎ (v.stage ≡ receiver.Waiting))
@@ -258,9 +258,9 @@ module _ {T : Type 0} where
 
   pub stores_allows : (slots id : ℕ) (m : Seated T) (v : ReceiverView T) (c : List (ℕ × Slot T)) → m ≡ (view.Receives v, c)
       → (v.stage ≡ receiver.Plain) ⊎ (v.stage ≡ receiver.Waiting) → v.word ≡ MESSAGE
-      → Allows IsLawful slots id m 0 (λ _. DISCONNECTED) (λ _. Stores m DISCONNECTED)
+      → Allows ObeysRule slots id m 0 (λ _. DISCONNECTED) (λ _. Stores m DISCONNECTED)
   stores_allows slots id m v c is on found =
-      subst (λ (x : Seated T). Allows IsLawful slots id x 0 (λ _. DISCONNECTED) (λ _. Stores x DISCONNECTED)) (sym is)
+      subst (λ (x : Seated T). Allows ObeysRule slots id x 0 (λ _. DISCONNECTED) (λ _. Stores x DISCONNECTED)) (sym is)
       (receiver_allows (λ _. DISCONNECTED) (λ _. Stores (view.Receives v, c) DISCONNECTED) slots id (view.Receives v, c) v refl
       (store_acts v c on found))
 
@@ -316,9 +316,9 @@ module _ {T : Type 0} where
 
   pub leaves_allows : (slots id : ℕ) (m : Seated T) (w : Waker) (v : ReceiverView T) (c : List (ℕ × Slot T))
       → m ≡ (view.Receives v, (1, Some (held.Waker w)) ∷ c) → v.stage ≡ receiver.Plain → v.waker ≡ slot.Taken
-      → Allows IsLawful slots id m 0 (λ n. either (n == EMPTY) RECEIVING n) (Leaves m)
+      → Allows ObeysRule slots id m 0 (λ n. either (n == EMPTY) RECEIVING n) (Leaves m)
   leaves_allows slots id m w v c is on has =
-      subst (λ (x : Seated T). Allows IsLawful slots id x 0 (λ n. either (n == EMPTY) RECEIVING n) (Leaves x)) (sym is)
+      subst (λ (x : Seated T). Allows ObeysRule slots id x 0 (λ n. either (n == EMPTY) RECEIVING n) (Leaves x)) (sym is)
       (receiver_allows (λ n. either (n == EMPTY) RECEIVING n) (Leaves (view.Receives v, with_waker w v c on has)) slots id
       (view.Receives v, with_waker w v c on has) v refl (leave_acts w v c on has))
 
@@ -369,16 +369,16 @@ module _ {T : Type 0} where
 
   pub fetches_allows : (slots id : ℕ) (m : Seated T) (v : ReceiverView T) (c : List (ℕ × Slot T)) → m ≡ (view.Receives v, c)
       → (v.stage ≡ receiver.Waiting) ⊎ (v.stage ≡ receiver.Cancelling)
-      → Allows IsLawful slots id m 0 (λ n. either (n == RECEIVING) EMPTY n) (Fetches m)
+      → Allows ObeysRule slots id m 0 (λ n. either (n == RECEIVING) EMPTY n) (Fetches m)
   fetches_allows slots id m v c is on =
-      subst (λ (x : Seated T). Allows IsLawful slots id x 0 (λ n. either (n == RECEIVING) EMPTY n) (Fetches x)) (sym is)
+      subst (λ (x : Seated T). Allows ObeysRule slots id x 0 (λ n. either (n == RECEIVING) EMPTY n) (Fetches x)) (sym is)
       (receiver_allows (λ n. either (n == RECEIVING) EMPTY n) (Fetches (view.Receives v, c)) slots id (view.Receives v, c) v refl
       (fetch_acts v c on))
 
   pub ends_awaking_allows : (slots id : ℕ) (m : Seated T) (v : ReceiverView T) (c : List (ℕ × Slot T)) → m ≡ (view.Receives v, c)
-      → v.stage ≡ receiver.Cancelling → Allows IsLawful slots id m 0 (λ n. either (n == AWAKING) DISCONNECTED n) (EndsAwaking m)
+      → v.stage ≡ receiver.Cancelling → Allows ObeysRule slots id m 0 (λ n. either (n == AWAKING) DISCONNECTED n) (EndsAwaking m)
   ends_awaking_allows slots id m v c is on =
-      subst (λ (x : Seated T). Allows IsLawful slots id x 0 (λ n. either (n == AWAKING) DISCONNECTED n) (EndsAwaking x)) (sym is)
+      subst (λ (x : Seated T). Allows ObeysRule slots id x 0 (λ n. either (n == AWAKING) DISCONNECTED n) (EndsAwaking x)) (sym is)
       (receiver_allows (λ n. either (n == AWAKING) DISCONNECTED n) (EndsAwaking (view.Receives v, c)) slots id (view.Receives v, c) v refl acts)
     where
       waker_stays : (word : ℕ) → (awaking_ended word v).waker ≡ v.waker
@@ -402,9 +402,9 @@ module _ {T : Type 0} where
       )
 
   pub ends_empty_allows : (slots id : ℕ) (m : Seated T) (v : ReceiverView T) (c : List (ℕ × Slot T)) → m ≡ (view.Receives v, c)
-      → v.stage ≡ receiver.Cancelling → Allows IsLawful slots id m 0 (λ n. either (n == EMPTY) DISCONNECTED n) (EndsEmpty m)
+      → v.stage ≡ receiver.Cancelling → Allows ObeysRule slots id m 0 (λ n. either (n == EMPTY) DISCONNECTED n) (EndsEmpty m)
   ends_empty_allows slots id m v c is on =
-      subst (λ (x : Seated T). Allows IsLawful slots id x 0 (λ n. either (n == EMPTY) DISCONNECTED n) (EndsEmpty x)) (sym is)
+      subst (λ (x : Seated T). Allows ObeysRule slots id x 0 (λ n. either (n == EMPTY) DISCONNECTED n) (EndsEmpty x)) (sym is)
       (receiver_allows (λ n. either (n == EMPTY) DISCONNECTED n) (EndsEmpty (view.Receives v, c)) slots id (view.Receives v, c) v refl acts)
     where
       waker_stays : (word : ℕ) → (empty_ended word v).waker ≡ v.waker

@@ -19,7 +19,7 @@ use Rattle.band_oneshot.specs.declared.view.View.{View}
 use Rattle.band_oneshot.specs.declared.view.View.TheVariants as view
 use Rattle.band_oneshot.specs.Ends.{Agree, waker_at, sender_looked, added, parted, awoken, sent_finally, parted_finally}
 use Rattle.band_oneshot.specs.Kept.Plays.{sender_of, SenderLooks, Adds, Parts, SendsFinally, PartsFinally, SenderFinds}
-use Rattle.band_oneshot.specs.Kept.Rule.{Slot, Seated, message_home, waker_home, Kept, IsLawful}
+use Rattle.band_oneshot.specs.Kept.Rule.{Slot, Seated, message_home, waker_home, Kept, ObeysRule}
 use Rattle.band_oneshot.specs.Runs.{counts_as, SenderRuns}
 use Rattle.band_oneshot.specs.Kept.Seats.{IsIdleWord, IsIdle, IsAwaking}
 use Rattle.band_oneshot.specs.Stages.{is_left}
@@ -56,9 +56,9 @@ module _ {T : Type 0} where
       → SenderFinds word v
   finds word h0 h1 v r k on = record { receiver = r; agree = k.agree; follows = k.found_by_sender on }
 
-  pub sender_looks_allows : (slots id : ℕ) (m : Seated T) → IsIdle m → Allows IsLawful slots id m 0 (λ n. n) (SenderLooks m)
+  pub sender_looks_allows : (slots id : ℕ) (m : Seated T) → IsIdle m → Allows ObeysRule slots id m 0 (λ n. n) (SenderLooks m)
   sender_looks_allows slots id m idle =
-      subst (λ (x : Seated T). Allows IsLawful slots id x 0 (λ n. n) (SenderLooks x)) (λ i. (sym idle.sends i, m.1))
+      subst (λ (x : Seated T). Allows ObeysRule slots id x 0 (λ n. n) (SenderLooks x)) (λ i. (sym idle.sends i, m.1))
       (sender_allows (λ n. n) (SenderLooks (view.Sends v, c)) slots id (view.Sends v, c) v refl acts)
     where
       v : SenderView T
@@ -157,9 +157,9 @@ module _ {T : Type 0} where
     ]
 
   pub adds_allows : (slots id : ℕ) (m : Seated T) (message : T) → IsIdle m → m.1 ≡ with_message message
-      → Allows IsLawful slots id m 0 (λ n. (n + 1) % 2 ^ 64) (Adds m)
+      → Allows ObeysRule slots id m 0 (λ n. (n + 1) % 2 ^ 64) (Adds m)
   adds_allows slots id m message idle slot =
-      subst (λ (x : Seated T). Allows IsLawful slots id x 0 (λ n. (n + 1) % 2 ^ 64) (Adds x)) (λ i. (sym idle.sends i, sym slot i))
+      subst (λ (x : Seated T). Allows ObeysRule slots id x 0 (λ n. (n + 1) % 2 ^ 64) (Adds x)) (λ i. (sym idle.sends i, sym slot i))
       (sender_allows (λ n. (n + 1) % 2 ^ 64) (Adds (view.Sends (sender_of m.0), with_message message)) slots id
       (view.Sends (sender_of m.0), with_message message) (sender_of m.0) refl (add_acts message (sender_of m.0) (idle_in m idle)))
 
@@ -220,9 +220,9 @@ module _ {T : Type 0} where
       | inr (inr e) ↦ subst PartActs (sym e) parts_disconnected h0 h1 r k
     ]
 
-  pub parts_allows : (slots id : ℕ) (m : Seated T) → IsIdle m → Allows IsLawful slots id m 0 (λ n. bit_xor n 1) (Parts m)
+  pub parts_allows : (slots id : ℕ) (m : Seated T) → IsIdle m → Allows ObeysRule slots id m 0 (λ n. bit_xor n 1) (Parts m)
   parts_allows slots id m idle =
-      subst (λ (x : Seated T). Allows IsLawful slots id x 0 (λ n. bit_xor n 1) (Parts x)) (λ i. (sym idle.sends i, m.1))
+      subst (λ (x : Seated T). Allows ObeysRule slots id x 0 (λ n. bit_xor n 1) (Parts x)) (λ i. (sym idle.sends i, m.1))
       (sender_allows (λ n. bit_xor n 1) (Parts (view.Sends (sender_of m.0), m.1)) slots id (view.Sends (sender_of m.0), m.1) (sender_of m.0) refl
       (part_acts (sender_of m.0) m.1 (idle_in m idle)))
 
@@ -280,9 +280,9 @@ module _ {T : Type 0} where
     ]
 
   pub sends_finally_allows : (slots id : ℕ) (m : Seated T) (message : T) (c : List (ℕ × Slot T)) (w : Waker) → IsAwaking true w m
-      → m.1 ≡ (0, Some (held.Message message)) ∷ c → Allows IsLawful slots id m 0 (λ _. MESSAGE) (SendsFinally m)
+      → m.1 ≡ (0, Some (held.Message message)) ∷ c → Allows ObeysRule slots id m 0 (λ _. MESSAGE) (SendsFinally m)
   sends_finally_allows slots id m message c w awaking slot =
-      subst (λ (x : Seated T). Allows IsLawful slots id x 0 (λ _. MESSAGE) (SendsFinally x)) (λ i. (sym awaking.sends i, sym slot i))
+      subst (λ (x : Seated T). Allows ObeysRule slots id x 0 (λ _. MESSAGE) (SendsFinally x)) (λ i. (sym awaking.sends i, sym slot i))
       (sender_allows (λ _. MESSAGE) (SendsFinally (view.Sends (sender_of m.0), (0, Some (held.Message message)) ∷ c)) slots id
       (view.Sends (sender_of m.0), (0, Some (held.Message message)) ∷ c) (sender_of m.0) refl
       (send_acts message c w (sender_of m.0) (awaking_in true w m awaking)))
@@ -295,9 +295,9 @@ module _ {T : Type 0} where
       (sends_finally message found (sender_of m.0) w awaking.stage awaking.message awaking.waker)
 
   pub parts_finally_allows : (slots id : ℕ) (m : Seated T) (w : Waker) → IsAwaking false w m
-      → Allows IsLawful slots id m 0 (λ _. DISCONNECTED) (PartsFinally m)
+      → Allows ObeysRule slots id m 0 (λ _. DISCONNECTED) (PartsFinally m)
   parts_finally_allows slots id m w awaking =
-      subst (λ (x : Seated T). Allows IsLawful slots id x 0 (λ _. DISCONNECTED) (PartsFinally x)) (λ i. (sym awaking.sends i, m.1))
+      subst (λ (x : Seated T). Allows ObeysRule slots id x 0 (λ _. DISCONNECTED) (PartsFinally x)) (λ i. (sym awaking.sends i, m.1))
       (sender_allows (λ _. DISCONNECTED) (PartsFinally (view.Sends v, c)) slots id (view.Sends v, c) v refl acts)
     where
       v : SenderView T

@@ -1,7 +1,7 @@
 //! The rule of a channel's table, and the names of its steps.
 ghost use Rattle.band_oneshot.specs.declared.view.View.TheVariants as view;
 ghost use Rattle.band_oneshot.specs.Kept.Plays.{Prepares, SenderLooks, Adds, Parts, SendsFinally, PartsFinally, ReceiverLooks, PollLooks, CancelLooks, Swaps, Stores, Leaves, Fetches, EndsAwaking, EndsEmpty};
-ghost use Rattle.band_oneshot.specs.Kept.Rule.{IsLawful};
+ghost use Rattle.band_oneshot.specs.Kept.Rule.{ObeysRule};
 ghost use Rattle.band_oneshot.specs.Ends.{new_sender, new_receiver};
 ghost use Rattle.std.specs.Prelude.{false};
 
@@ -12,7 +12,7 @@ use atomic_table::{Play, Split, TableRule};
 pub(crate) struct Law;
 
 impl<T> TableRule<Option<Held<T>>, View<T>, ()> for Law {
-    ghost holds = { λ _. IsLawful };
+    ghost holds = { λ _. ObeysRule };
 
     ghost first = { λ _. view.Whole false };
 }

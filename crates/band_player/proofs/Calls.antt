@@ -32,7 +32,7 @@ use Rattle.band_script.specs.declared.call.Call.{Call}
 use Rattle.band_script.specs.declared.call.Call.TheVariants as calls
 use Rattle.band_sem.specs.Request.{Request as Asked, NotPolled, Joined}
 use Rattle.band_sem.specs.Semaphore.{taken, given_back, released, reduced, joined, received, forgotten, with_waker, without_request, told, shut, finished, cancelled, LaterPoll, Polls, PollsAt}
-use Rattle.band_player.specs.Kept.{wakes_left, StandsFor, FollowsFrom, DidWork}
+use Rattle.band_player.specs.Kept.{wakes_left, TableStandsFor, FollowsFrom, DidWork}
 use Rattle.band_player.specs.Moves.{object_place, offering, held_as, mode_of, size_for, ask_call, try_call, AsksName, SplitsTo, Grows, Changes, FitsHolding, mergeable, mergeable_held, dropped, downgraded, PollsRequest, PollsToken, answer_of, left_of, mode_in, IsReply, left_by}
 use Rattle.band_player.specs.Names.{thing_at, Updated, is_object}
 use Rattle.band_player.specs.Objects.{ObjectState, RequestState, HoldingState, IsLikeObject, IsSteady, of_kind, shares_of, on_semaphore, in_mode, asked_in, asked_of, held_in, permit_in}
@@ -65,7 +65,7 @@ plan_tries want made of state = refl
 pub same_figures : (a a' : ℕ) (f f' : ℤ) (w w' g g' h h' : ℕ) → a ≡ a' → f ≡ f' → w ≡ w' → g ≡ g' → h ≡ h' → replies.Figures a f w g h ≡ replies.Figures a' f' w' g' h'
 same_figures a a' f f' w w' g g' h h' e1 e2 e3 e4 e5 = cc
 
-module _ (old : Table) (none : wakes_left old ≡ []) (state : State) (stands : StandsFor old state) (new : Table) where
+module _ (old : Table) (none : wakes_left old ≡ []) (state : State) (stands : TableStandsFor old state) (new : Table) where
   abbrev table : List ℕ → Option Thing
   table = thing_at old.names
 

@@ -16,7 +16,7 @@ use Rattle.band_rules.specs.Order.{Sound}
 use Rattle.band_rules.specs.State.{State, Named, Tag}
 use Rattle.band_sem.specs.Request.{Stage, Joined}
 use Rattle.band_sem.specs.Semaphore.{IsOwn}
-use Rattle.band_player.specs.Kept.{IsSound, Offered, offering_at}
+use Rattle.band_player.specs.Kept.{StandsForSome, Offered, offering_at}
 use Rattle.band_player.specs.Moves.{IsFit, FitsRequest, FitsHolding, IsJoined, IsNumbered, CanGrow, held_as, mergeable}
 use Rattle.band_player.specs.Apart.{at as at_name}
 use Rattle.band_player.specs.Names.{thing_at, Updated}
@@ -88,7 +88,7 @@ module _ (tags : ℕ → ℕ → Tag) (table : List ℕ → Option Thing) (kept 
           subst (λ o. FitsHolding o holding) (sym there)
           (sym at.number, enough, subst (λ k. Fits k holding.mode holding.count) at.kind (all-found _ (is_tag bytes_eq name) named.object.held _ sound.each_held seen))
 
-pub fits_in : (table : Table) (name : List ℕ) (thing : Thing) → IsSound table → thing_at table.names name ≡ Some thing → IsFit table.objects.items thing
+pub fits_in : (table : Table) (name : List ℕ) (thing : Thing) → StandsForSome table → thing_at table.names name ≡ Some thing → IsFit table.objects.items thing
 fits_in table name thing sound is =
     ∥∥₁_elim sound (fit-prop table.objects.items thing)
     (λ it. fits_at it.1.tags (thing_at table.names) table.objects.items it.0 it.1.under name thing is)
@@ -113,7 +113,7 @@ module _ (tags : ℕ → ℕ → Tag) (table : List ℕ → Option Thing) (kept 
       let law = at.steady.0.in_hand in
       omega (arith, at.held)
 
-pub can_grow : (table : Table) → IsSound table → (kept spent : List ℕ) (place : ℕ) → mergeable kept spent (thing_at table.names kept) (thing_at table.names spent) ≡ Ok place → (more : HoldingState)
+pub can_grow : (table : Table) → StandsForSome table → (kept spent : List ℕ) (place : ℕ) → mergeable kept spent (thing_at table.names kept) (thing_at table.names spent) ≡ Ok place → (more : HoldingState)
     → held_as Permit (thing_at table.names spent) ≡ Ok more → (mid : List ℕ → Option Thing) → Updated (thing_at table.names) mid spent None → CanGrow (mid kept) (tokens.Holding more)
 can_grow table sound kept spent place is more spent_is mid ended =
     let two = can_merge kept spent (thing_at table.names kept) (thing_at table.names spent) place is in
@@ -130,20 +130,20 @@ can_grow table sound kept spent place is more spent_is mid ended =
           (held_from Permit (thing_at table.names kept) two.first two.first_is).0 spent_there.0 one two.apart);
     }
 
-pub numbered_in : (table : Table) (place : ℕ) → IsSound table → IsNumbered table.objects.items place
+pub numbered_in : (table : Table) (place : ℕ) → StandsForSome table → IsNumbered table.objects.items place
 numbered_in table place sound = ∥∥₁_elim sound (hlevel props) (λ it. numbered it.1.tags (thing_at table.names) table.objects.items it.0 it.1.under place)
 
 -- the object that was asked of by name, and read at its place
-pub offered_in : (table : Table) → IsSound table → (mode : Mode) (of : List ℕ) (place : ℕ) → offering_at mode table of ≡ Ok place → Offered mode table of place
+pub offered_in : (table : Table) → StandsForSome table → (mode : Mode) (of : List ℕ) (place : ℕ) → offering_at mode table of ≡ Ok place → Offered mode table of place
 offered_in table sound mode of place is =
     let within = fits_in table of (things.Object place) sound (offered mode table.objects.items (thing_at table.names of) place is).0 in
     record { is = is; within = within; there = λ object read. slice_get_read table.objects.items _ place object refl within read }
 
 -- the object of a name that is a token
-pub known : (table : Table) (name : List ℕ) (token : TokenState) (place : ℕ) → IsSound table → thing_at table.names name ≡ Some (thing_of token) → place ≡ place_at (thing_of token)
+pub known : (table : Table) (name : List ℕ) (token : TokenState) (place : ℕ) → StandsForSome table → thing_at table.names name ≡ Some (thing_of token) → place ≡ place_at (thing_of token)
     → Reads table.objects.items token place
 known table name token place sound is at = reads table.objects.items token place at (fits_in table name (thing_of token) sound is)
 
-pub known_token : (table : Table) (name : List ℕ) (token : TokenState) (place : ℕ) → IsSound table → at_name table.names.tokens name ≡ Some token → place ≡ place_at (thing_of token)
+pub known_token : (table : Table) (name : List ℕ) (token : TokenState) (place : ℕ) → StandsForSome table → at_name table.names.tokens name ≡ Some token → place ≡ place_at (thing_of token)
     → Reads table.objects.items token place
 known_token table name token place sound is = known table name token place sound (token_there table.names name token is)

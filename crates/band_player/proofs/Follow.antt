@@ -17,7 +17,7 @@ use Rattle.band_rules.specs.Plan.{Refuse, Act, plan}
 use Rattle.band_rules.specs.State.{State, Named, Tag, Absent, standing}
 use Rattle.band_rules.specs.Step.{Effect, reply_of, perform, with_object, step}
 use Rattle.band_script.specs.declared.call.Call.{Call}
-use Rattle.band_player.specs.Kept.{wakes_of, wakes_left, OthersQuiet, StandsFor, IsSound, FollowsFrom, Follows, DidWork, Works, Stays, Answered, Wanting}
+use Rattle.band_player.specs.Kept.{wakes_of, wakes_left, OthersQuiet, TableStandsFor, StandsForSome, FollowsFrom, TableFollows, DidWork, TableWorks, TableStays, Answered, Wanting}
 use Rattle.band_player.specs.Names.{thing_at}
 use Rattle.band_player.specs.Objects.{ObjectState}
 use Rattle.band_player.specs.Table.{shown_of, StandsUnder}
@@ -29,14 +29,14 @@ use Rattle.band_player.proofs.Lists.{also_at, all_at_place, at_set_same, at_set_
 use Rattle.band_player.proofs.Stood.{stands_as, standing_there, absent_there}
 
 -- a table that stands for a state, or did
-pub answered : (old new : Table) (call : Call) (reply : Reply) → IsSound old → Follows call old reply new → Answered call old reply new
+pub answered : (old new : Table) (call : Call) (reply : Reply) → StandsForSome old → TableFollows call old reply new → Answered call old reply new
 answered old new call reply sound follows = record { follows = follows; sound = ∥∥₁_map sound (λ it. ((step call it.0).state, (follows it.0 it.1).stands)) }
 
-pub sound_either : {E : Type 0} (old new : Table) (call : Call) (result : Result Reply E) → IfOk result (λ reply. Answered call old reply new) → OnErr result (Wanting call old new) → IsSound new
+pub sound_either : {E : Type 0} (old new : Table) (call : Call) (result : Result Reply E) → IfOk result (λ reply. Answered call old reply new) → OnErr result (Wanting call old new) → StandsForSome new
 sound_either old new call (Ok reply) ok err = ok.sound
 sound_either old new call (Err error) ok err = err.sound
 
-pub sound_still : (old new : Table) → IsSound old → Stays old new → IsSound new
+pub sound_still : (old new : Table) → StandsForSome old → TableStays old new → StandsForSome new
 sound_still old new sound stays = ∥∥₁_map sound (λ it. (it.0, stays it.0 it.1))
 
 -- no waker is left in a table
@@ -47,7 +47,7 @@ none_woken last kept others none place object there =
     (λ h. ap wakes_of (sym there ∙ ap (slice_get kept) (eqb-true place last h)) ∙ none)
     (λ h. others place object (λ k. false≢true (sym h ∙ eq-eqb place last k)) there)
 
-module _ (old : Table) (none : wakes_left old ≡ []) (state : State) (stands : StandsFor old state) where
+module _ (old : Table) (none : wakes_left old ≡ []) (state : State) (stands : TableStandsFor old state) where
   abbrev table : List ℕ → Option Thing
   table = thing_at old.names
 
@@ -92,7 +92,7 @@ module _ (old : Table) (none : wakes_left old ≡ []) (state : State) (stands : 
     pub none_still : wakes_left new ≡ []
     none_still = ap (λ (objects : List ObjectState). wakes_of (slice_get objects new.last)) items ∙ none_of (slice_get kept new.last) refl
 
-    pub same_stands : StandsFor new state
+    pub same_stands : TableStandsFor new state
     same_stands = record {
       tags = stands.tags;
       under = subst (λ (objects : List ObjectState). StandsUnder stands.tags (thing_at new.names) objects state) (sym items)
@@ -106,7 +106,7 @@ module _ (old : Table) (none : wakes_left old ≡ []) (state : State) (stands : 
         record {
           replied = sym (ap (λ (e : Effect). e.reply) effect);
           woken = none_still ∙ sym (ap (λ (e : Effect). e.woken) effect);
-          stands = subst (StandsFor new) (sym (ap (λ (e : Effect). e.state) effect)) same_stands;
+          stands = subst (TableStandsFor new) (sym (ap (λ (e : Effect). e.state) effect)) same_stands;
         }
 
     -- a rule that leaves its object as it was
@@ -127,7 +127,7 @@ module _ (old : Table) (none : wakes_left old ≡ []) (state : State) (stands : 
         record {
           replied = sym (ap (λ (e : Effect). e.reply) effect);
           woken = none_still ∙ sym (ap (λ (e : Effect). e.woken) effect);
-          stands = subst (StandsFor new) (sym (ap (λ (e : Effect). e.state) effect)) same_stands;
+          stands = subst (TableStandsFor new) (sym (ap (λ (e : Effect). e.state) effect)) same_stands;
         }
 
   -- A rule was done to an object.
@@ -154,9 +154,9 @@ module _ (old : Table) (none : wakes_left old ≡ []) (state : State) (stands : 
   works call rule named planned did = subst (λ p. DidWork (perform p state).reply) (sym planned) did
 
 -- a table with the same names and objects stands for the same, whichever object was called last
-pub wanting : (old : Table) → IsSound old → wakes_left old ≡ [] → (new : Table) → ((name : List ℕ) → thing_at new.names name ≡ thing_at old.names name) → new.objects.items ≡ old.objects.items
-    → (call : Call) → Works call old → Wanting call old new
+pub wanting : (old : Table) → StandsForSome old → wakes_left old ≡ [] → (new : Table) → ((name : List ℕ) → thing_at new.names name ≡ thing_at old.names name) → new.objects.items ≡ old.objects.items
+    → (call : Call) → TableWorks call old → Wanting call old new
 wanting old sound none new names items call works =
-    let stays : Stays old new = λ state stands. same_stands old none state stands new names items in
+    let stays : TableStays old new = λ state stands. same_stands old none state stands new names items in
     let quiet : wakes_left new ≡ [] = ∥∥₁_elim sound (hlevel props) (λ it. none_still old none it.0 it.1 new names items) in
     record { stays = stays; quiet = quiet; works = works; sound = sound_still old new sound stays }

@@ -14,7 +14,7 @@ use Rattle.band_rules.specs.State.{State, Tag, standing}
 use Rattle.band_rules.specs.Step.{reply_of, perform}
 use Rattle.band_script.specs.declared.call.Call.{Call}
 use Rattle.band_script.specs.declared.call.Call.TheVariants as calls
-use Rattle.band_player.specs.Kept.{Asks, Answered, VisitsJoiners}
+use Rattle.band_player.specs.Kept.{Asks, Answered, TableVisitsJoiners}
 use Rattle.band_player.specs.declared.table.Table.{Table}
 
 abbrev one_if : Option (List ℕ) → ℕ
@@ -84,7 +84,7 @@ visited_by (inl asks) (inr waiting) most rose waits = let more = waits asks wait
 
 -- what a call puts into a line was visited
 pub visits_joiners : {E : Type 0} (call : Call) (result : Result Reply E) (old new : Table) {before after : ℕ} → IfOk result (λ reply. Answered call old reply new)
-    → (Asks call → result ≡ Ok replies.Pending → before < after) → before ≤ after → OnOk result (VisitsJoiners call old before after)
+    → (Asks call → result ≡ Ok replies.Pending → before < after) → before ≤ after → OnOk result (TableVisitsJoiners call old before after)
 visits_joiners call (Err error) old new answered waits rose = tt
 visits_joiners call (Ok reply) old new answered waits rose = λ state stands.
     let replied = (answered.follows state stands).replied in

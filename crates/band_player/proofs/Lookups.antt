@@ -12,7 +12,7 @@ use Rattle.band_balance.proofs.Rules.{bytes_told}
 use Rattle.band_rules.specs.Plan.{object_for, lender, same_mode}
 use Rattle.band_rules.proofs.Planned.{if_live, if_unused}
 use Rattle.band_rules.specs.State.{State, Named, Standing, Absent, standing}
-use Rattle.band_player.specs.Kept.{wakes_left, StandsFor}
+use Rattle.band_player.specs.Kept.{wakes_left, TableStandsFor}
 use Rattle.band_player.specs.Moves.{object_place, offers_at, offering, held_as}
 use Rattle.band_player.specs.Names.{thing_at}
 use Rattle.band_player.specs.Objects.{ObjectState, HoldingState}
@@ -43,7 +43,7 @@ abbrev pub place_held : Result HoldingState Refusal → Result ℕ Refusal
 place_held (Ok holding) = Ok holding.of
 place_held (Err refusal) = Err refusal
 
-module _ (old : Table) (none : wakes_left old ≡ []) (state : State) (stands : StandsFor old state) where
+module _ (old : Table) (none : wakes_left old ≡ []) (state : State) (stands : TableStandsFor old state) where
   abbrev table : List ℕ → Option Thing
   table = thing_at old.names
 

@@ -20,7 +20,7 @@ use Rattle.band_rules.proofs.Runs.{in_order-step}
 use Rattle.band_script.specs.Call.{ForReaders}
 use Rattle.std.proofs.lemmas.List.Sorted.{IsPermutation-refl}
 use Rattle.band_sem.specs.Semaphore.{new_state, asked}
-use Rattle.band_player.specs.Kept.{wakes_of, wakes_left, StandsFor, FollowsFrom, DidWork}
+use Rattle.band_player.specs.Kept.{wakes_of, wakes_left, TableStandsFor, FollowsFrom, DidWork}
 use Rattle.band_player.specs.Moves.{kind_made, count_made, make_call}
 use Rattle.band_player.specs.Names.{thing_at, Updated}
 use Rattle.band_player.specs.Objects.{ObjectState, IsSteady, of_kind, asked_in}
@@ -72,7 +72,7 @@ module _ (new : New) (made : List ℕ) where
       record { kind = refl; number = refl; line = alike_itself (open_line _); closed = refl; ended = IsPermutation-refl []; held = refl; held_once = tt; steady = steady; every = every; slots = slots }
 
 -- a name that is taken
-pub make_taken : (old : Table) (none : wakes_left old ≡ []) (state : State) (stands : StandsFor old state) (new : New) (made : List ℕ) → IsSome (thing_at old.names made)
+pub make_taken : (old : Table) (none : wakes_left old ≡ []) (state : State) (stands : TableStandsFor old state) (new : New) (made : List ℕ) → IsSome (thing_at old.names made)
     → FollowsFrom (make_call new made) (replies.Refused refusals.Taken) old state
 make_taken old none state stands new made live_name =
     refused old none state stands old (λ n. refl) refl (make_call new made) refusals.Taken
@@ -83,7 +83,7 @@ pub pushed : {A E : Type 0} (old room new : List ObjectState) (result : Result A
     → new ≡ old ++ object ∷ []
 pushed old room new result x object items ok same = items ∙ ap (λ r. cond (is_ok r) (room ++ object ∷ []) room) ok ∙ ap (λ (xs : List ObjectState). xs ++ object ∷ []) same
 
-module _ (old : Table) (none : wakes_left old ≡ []) (state : State) (stands : StandsFor old state) (new : New) (made : List ℕ) (free : thing_at old.names made ≡ None) where
+module _ (old : Table) (none : wakes_left old ≡ []) (state : State) (stands : TableStandsFor old state) (new : New) (made : List ℕ) (free : thing_at old.names made ≡ None) where
   abbrev table : List ℕ → Option Thing
   table = thing_at old.names
 

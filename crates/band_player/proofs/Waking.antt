@@ -7,7 +7,7 @@ use Rattle.band_balance.specs.Line.{Entry, Line, AreAlike, entry_named, requests
 use Rattle.band_base.specs.declared.waker.Waker.{Waker}
 use Rattle.band_rules.specs.State.{State, Named}
 use Rattle.band_sem.specs.Semaphore.{is_slot}
-use Rattle.band_player.specs.Kept.{StandsFor}
+use Rattle.band_player.specs.Kept.{TableStandsFor}
 use Rattle.band_player.specs.Names.{thing_at}
 use Rattle.band_player.specs.Objects.{ObjectState, IsSteady, TakesWakeOf, asked_in}
 use Rattle.band_player.specs.Table.{quiet, StandsAt}
@@ -31,7 +31,7 @@ same_quiet old new (Some waker) takes = record { kind = takes.kind; number = ap 
 
 module _ (old new : Table) (object object' : ObjectState) (result : Option Waker) (there : slice_get old.objects.items old.last ≡ Some object) (takes : TakesWakeOf object result object')
     (steady : IsSteady object')
-    (names : new.names ≡ old.names) (items : new.objects.items ≡ slice_set old.objects.items old.last object') (last : new.last ≡ old.last) (state : State) (stands : StandsFor old state) where
+    (names : new.names ≡ old.names) (items : new.objects.items ≡ slice_set old.objects.items old.last object') (last : new.last ≡ old.last) (state : State) (stands : TableStandsFor old state) where
   stands_at : (named : Named) → StandsAt (stands.tags old.last) (thing_at old.names) old.last object named → StandsAt (stands.tags old.last) (thing_at old.names) old.last object' named
   stands_at named at =
       let same = same_quiet object object' result takes in
@@ -56,7 +56,7 @@ module _ (old new : Table) (object object' : ObjectState) (result : Option Waker
       each_replaced (λ p o. (n : Named) → slice_get state p ≡ Some n → StandsAt (stands.tags p) (thing_at old.names) p o n) old.objects.items old.last object object' there
       (λ n is. stands_at n (stands.under.each old.last object n there is)) (λ p o apart at_other n is. stands.under.each p o n at_other is) place kept at named there_named
 
-  pub still_stands : StandsFor new state
+  pub still_stands : TableStandsFor new state
   still_stands = record {
     tags = stands.tags;
     under = rw (names, items) (record {

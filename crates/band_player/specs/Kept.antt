@@ -31,24 +31,24 @@ OthersQuiet last kept = (place : ℕ) (object : ObjectState) → place ≢ last
     → slice_get kept place ≡ Some object → object.line.wakes ≡ []
 
 -- the table stands for a state, by some names of the slots
-pub record StandsFor (table : Table) (state : State) : Type 0 where
+pub record TableStandsFor (table : Table) (state : State) : Type 0 where
   pub tags : ℕ → ℕ → Tag
   pub under : StandsUnder tags (thing_at table.names) table.objects.items state
   pub others : OthersQuiet table.last table.objects.items
 
 -- it stands for some state
-abbrev pub IsSound : Table → Type 0
-IsSound table = ∥ ((state : State) × StandsFor table state) ∥₁
+abbrev pub StandsForSome : Table → Type 0
+StandsForSome table = ∥ ((state : State) × TableStandsFor table state) ∥₁
 
 -- for every state that was stood for, the reply and the wakers are those of the call, and what it leaves is
 -- stood for
 pub record FollowsFrom (call : Call) (reply : Reply) (new : Table) (state : State) : Type 0 where
   pub replied : reply ≡ (step call state).reply
   pub woken : wakes_left new ≡ (step call state).woken
-  pub stands : StandsFor new (step call state).state
+  pub stands : TableStandsFor new (step call state).state
 
-abbrev pub Follows : Call → Table → Reply → Table → Type 0
-Follows call old reply new = (state : State) → StandsFor old state → FollowsFrom call reply new state
+abbrev pub TableFollows : Call → Table → Reply → Table → Type 0
+TableFollows call old reply new = (state : State) → TableStandsFor old state → FollowsFrom call reply new state
 
 -- the reply of a call that did its work
 abbrev pub DidWork : Reply → Type 0
@@ -57,8 +57,8 @@ DidWork (replies.Refused refusal) = ⊥
 DidWork reply = Unit {0}
 
 -- in every state that is stood for, the call does its work
-abbrev pub Works : Call → Table → Type 0
-Works call table = (state : State) → StandsFor table state → DidWork (step call state).reply
+abbrev pub TableWorks : Call → Table → Type 0
+TableWorks call table = (state : State) → TableStandsFor table state → DidWork (step call state).reply
 
 -- the calls that make a request, and poll it first
 abbrev pub Asks : Call → Type 0
@@ -69,25 +69,25 @@ Asks (calls.Write made of waker) = Unit {0}
 Asks call = ⊥
 
 -- in every state that is stood for: where the call puts a request into a line, that was visited
-abbrev pub VisitsJoiners : Call → Table → ℕ → ℕ → Type 0
-VisitsJoiners call table before after =
-    (state : State) → StandsFor table state → before + joiners_by (plan call state) ≤ after
+abbrev pub TableVisitsJoiners : Call → Table → ℕ → ℕ → Type 0
+TableVisitsJoiners call table before after =
+    (state : State) → TableStandsFor table state → before + joiners_by (plan call state) ≤ after
 
 -- every state that was stood for still is
-abbrev pub Stays : Table → Table → Type 0
-Stays old new = (state : State) → StandsFor old state → StandsFor new state
+abbrev pub TableStays : Table → Table → Type 0
+TableStays old new = (state : State) → TableStandsFor old state → TableStandsFor new state
 
 -- a call was answered: the table follows it, and stands for some state
 pub record Answered (call : Call) (old : Table) (reply : Reply) (new : Table) : Type 0 where
-  pub follows : Follows call old reply new
-  pub sound : IsSound new
+  pub follows : TableFollows call old reply new
+  pub sound : StandsForSome new
 
 -- memory was wanting: the table stands for what it did, no waker is left, and the call would have done its work
 pub record Wanting (call : Call) (old new : Table) : Type 0 where
-  pub stays : Stays old new
+  pub stays : TableStays old new
   pub quiet : wakes_left new ≡ []
-  pub works : Works call old
-  pub sound : IsSound new
+  pub works : TableWorks call old
+  pub sound : StandsForSome new
 
 -- the place of the object with a name, of which this can be asked, or why there is none
 abbrev pub offering_at : Mode → Table → List ℕ → Result ℕ Refusal

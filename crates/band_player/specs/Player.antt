@@ -19,7 +19,7 @@ use Rattle.band_player.specs.declared.player.Player.{Player}
 
 -- the player has come to a state
 abbrev pub StandsFor : Player → State → Type 0
-StandsFor player state = kept.StandsFor player.table state
+StandsFor player state = kept.TableStandsFor player.table state
 
 -- the wakers of the last step that are not taken yet, in order
 abbrev pub wakers_left : Player → List ℕ
@@ -28,20 +28,20 @@ wakers_left player = kept.wakes_left player.table
 -- from each state that the player may have come to, it gives the reply and the wakers of the call's step, and
 -- comes to its state
 abbrev pub Follows : Call → Player → Reply → Player → Type 0
-Follows call old reply new = kept.Follows call old.table reply new.table
+Follows call old reply new = kept.TableFollows call old.table reply new.table
 
 -- in each state that the player may have come to, the call does its work: it is not refused, and not answered
 -- by `none`
 abbrev pub Works : Call → Player → Type 0
-Works call player = kept.Works call player.table
+Works call player = kept.TableWorks call player.table
 
 -- in each state that the player may have come to: where the call puts a request into a line, that was visited
 abbrev pub VisitsJoiners : Call → Player → ℕ → ℕ → Type 0
-VisitsJoiners call player before after = kept.VisitsJoiners call player.table before after
+VisitsJoiners call player before after = kept.TableVisitsJoiners call player.table before after
 
 -- it has come to what it had come to, whichever of its wakers are taken
 abbrev pub Stays : Player → Player → Type 0
-Stays old new = kept.Stays old.table new.table
+Stays old new = kept.TableStays old.table new.table
 
 -- how many wait, and how many debts there are, in all lines
 abbrev pub load_of : Player → ℕ

@@ -1,6 +1,6 @@
 //! The player: one call after another on named objects.
 ghost use Rattle.std.proofs.Props.{props};
-ghost use Rattle.band_player.specs.Kept.{IsSound};
+ghost use Rattle.band_player.specs.Kept.{StandsForSome};
 
 use crate::table::Table;
 use crate::{Call, Reply};
@@ -12,7 +12,7 @@ use std::sync::ledger::Ledger;
 pub struct Player {
     alloc: Global,
     table: Table,
-    ghost sound: { IsSound table } by { Prim.hlevel props },
+    ghost sound: { StandsForSome table } by { Prim.hlevel props },
 }
 
 impl Player {

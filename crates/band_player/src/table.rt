@@ -7,7 +7,7 @@ ghost use Rattle.band_player.specs.Moves.{mode_of, mergeable, make_call, ask_cal
 ghost use Rattle.band_sem.specs.Visits.{Pays};
 ghost use Rattle.band_player.specs.Player.{TakesNoMemory};
 ghost use Rattle.band_player.specs.Visits.{load};
-ghost use Rattle.band_player.specs.Kept.{StandsFor, IsSound, Asks, Follows, Stays, Answered, Wanting, Offered, offering_at, wakes_left};
+ghost use Rattle.band_player.specs.Kept.{TableStandsFor, StandsForSome, Asks, TableFollows, TableStays, Answered, Wanting, Offered, offering_at, wakes_left};
 
 use crate::names::Names;
 use crate::object::{New, Object, Want};
@@ -48,8 +48,8 @@ fn mergeable(names: &Names, kept: &Name, spent: &Name) -> Result<u64, Refusal>
 impl Table {
     /// No name and no object.
     pub(crate) fn new(alloc: Global) -> Table
-        ensures sound { IsSound result }
-        ensures start { StandsFor result [] }
+        ensures sound { StandsForSome result }
+        ensures start { TableStandsFor result [] }
         ensures wakes { wakes_left result ≡ [] }
         ensures load { load result.objects.items ≡ 0 }
     {
@@ -62,7 +62,7 @@ impl Table {
 
     /// The place of the object with this name, of which this can be asked.
     fn object_for(&self, name: &Name, want: Want) -> Result<u64, Refusal>
-        requires { IsSound self.now }
+        requires { StandsForSome self.now }
         ensures { MatchResult result (λ place. Offered (mode_of want) self.now name.now place)
             (λ refusal. offering_at (mode_of want) self.now name.now ≡ Err refusal) }
     {
@@ -76,7 +76,7 @@ impl Table {
 
     /// Makes an object.
     pub(crate) fn make(&mut self, alloc: Global, made: &Name, new: New) -> Result<Reply, AllocError>
-        requires sound { IsSound self.old }
+        requires sound { StandsForSome self.old }
         requires quiet { wakes_left self.old ≡ [] }
         requires readers { ForReaders (make_call new made.now) }
         ensures answered { IfOk result (λ reply. Answered (make_call new made.now) self.old reply self.new) }
@@ -102,7 +102,7 @@ impl Table {
         waker: Waker,
         steps: &mut Steps<L>,
     ) -> Result<Reply, AllocError>
-        requires sound { IsSound self.old }
+        requires sound { StandsForSome self.old }
         requires quiet { wakes_left self.old ≡ [] }
         ensures answered { IfOk result (λ reply.
             Answered (ask_call want made.now of.now waker.0) self.old reply self.new) }
@@ -134,7 +134,7 @@ impl Table {
         waker: Waker,
         steps: &mut Steps<L>,
     ) -> Reply
-        requires sound { IsSound self.old }
+        requires sound { StandsForSome self.old }
         requires quiet { wakes_left self.old ≡ [] }
         ensures answered { Answered (calls.Poll name.now waker.0) self.old result self.new }
         ensures visits { Pays (load self.old.objects.items) (load self.new.objects.items)
@@ -162,7 +162,7 @@ impl Table {
 
     /// Lets go of the request or permit that a name is.
     pub(crate) fn drop_name<L: Ledger>(&mut self, name: &Name, steps: &mut Steps<L>) -> Reply
-        requires sound { IsSound self.old }
+        requires sound { StandsForSome self.old }
         requires quiet { wakes_left self.old ≡ [] }
         ensures answered { Answered (calls.Drop name.now) self.old result self.new }
         ensures visits { Pays (load self.old.objects.items) (load self.new.objects.items)
@@ -187,7 +187,7 @@ impl Table {
         made: &Name,
         of: &Name,
     ) -> Result<Reply, AllocError>
-        requires sound { IsSound self.old }
+        requires sound { StandsForSome self.old }
         requires quiet { wakes_left self.old ≡ [] }
         ensures answered { IfOk result (λ reply.
             Answered (try_call want made.now of.now) self.old reply self.new) }
@@ -215,7 +215,7 @@ impl Table {
 
     /// Adds permits to a semaphore.
     pub(crate) fn release<L: Ledger>(&mut self, of: &Name, n: u64, steps: &mut Steps<L>) -> Reply
-        requires sound { IsSound self.old }
+        requires sound { StandsForSome self.old }
         requires quiet { wakes_left self.old ≡ [] }
         ensures answered { Answered (calls.Release of.now n) self.old result self.new }
         ensures visits { Pays (load self.old.objects.items) (load self.new.objects.items)
@@ -240,7 +240,7 @@ impl Table {
         n: u64,
         steps: &mut Steps<L>,
     ) -> Result<Reply, AllocError>
-        requires sound { IsSound self.old }
+        requires sound { StandsForSome self.old }
         requires quiet { wakes_left self.old ≡ [] }
         ensures answered { IfOk result (λ reply. Answered (calls.Reduce of.now n) self.old reply self.new) }
         ensures wanting { OnErr result (Wanting (calls.Reduce of.now n) self.old self.new) }
@@ -262,7 +262,7 @@ impl Table {
 
     /// Takes away what a semaphore has available.
     pub(crate) fn drain(&mut self, of: &Name, n: u64) -> Reply
-        requires sound { IsSound self.old }
+        requires sound { StandsForSome self.old }
         requires quiet { wakes_left self.old ≡ [] }
         ensures answered { Answered (calls.Drain of.now n) self.old result self.new }
         ensures load { load self.new.objects.items ≡ load self.old.objects.items }
@@ -278,7 +278,7 @@ impl Table {
 
     /// Closes a semaphore.
     pub(crate) fn close<L: Ledger>(&mut self, of: &Name, steps: &mut Steps<L>) -> Reply
-        requires sound { IsSound self.old }
+        requires sound { StandsForSome self.old }
         requires quiet { wakes_left self.old ≡ [] }
         ensures answered { Answered (calls.Close of.now) self.old result self.new }
         ensures visits { Pays (load self.old.objects.items) (load self.new.objects.items)
@@ -295,9 +295,9 @@ impl Table {
 
     /// The figures of an object.
     pub(crate) fn status(&self, name: &Name) -> Reply
-        requires sound { IsSound self.now }
+        requires sound { StandsForSome self.now }
         requires quiet { wakes_left self.now ≡ [] }
-        ensures { Follows (calls.Status name.now) self.now result self.now }
+        ensures { TableFollows (calls.Status name.now) self.now result self.now }
     {
         let place = match self.names.object_at(name) {
             Ok(place) => place,
@@ -315,7 +315,7 @@ impl Table {
 
     /// Ends the permit that a name is, and nothing comes back.
     pub(crate) fn forget(&mut self, name: &Name) -> Reply
-        requires sound { IsSound self.old }
+        requires sound { StandsForSome self.old }
         requires quiet { wakes_left self.old ≡ [] }
         ensures answered { Answered (calls.Forget name.now) self.old result self.new }
         ensures load { load self.new.objects.items ≡ load self.old.objects.items }
@@ -332,7 +332,7 @@ impl Table {
 
     /// Moves permits of the one that a name is to a new one.
     pub(crate) fn split(&mut self, name: &Name, made: &Name, n: u64) -> Result<Reply, AllocError>
-        requires sound { IsSound self.old }
+        requires sound { StandsForSome self.old }
         requires quiet { wakes_left self.old ≡ [] }
         ensures answered { IfOk result (λ reply.
             Answered (calls.Split name.now made.now n) self.old reply self.new) }
@@ -356,7 +356,7 @@ impl Table {
 
     /// Moves all permits of the second name to the first.
     pub(crate) fn merge(&mut self, kept: &Name, spent: &Name) -> Reply
-        requires sound { IsSound self.old }
+        requires sound { StandsForSome self.old }
         requires quiet { wakes_left self.old ≡ [] }
         ensures answered { Answered (calls.Merge kept.now spent.now) self.old result self.new }
         ensures load { load self.new.objects.items ≡ load self.old.objects.items }
@@ -373,7 +373,7 @@ impl Table {
 
     /// Makes the right to write that a name is one to read.
     pub(crate) fn downgrade<L: Ledger>(&mut self, name: &Name, steps: &mut Steps<L>) -> Reply
-        requires sound { IsSound self.old }
+        requires sound { StandsForSome self.old }
         requires quiet { wakes_left self.old ≡ [] }
         ensures answered { Answered (calls.Downgrade name.now) self.old result self.new }
         ensures visits { Pays (load self.old.objects.items) (load self.new.objects.items)
@@ -398,7 +398,7 @@ impl Table {
         call: &Call,
         steps: &mut Steps<L>,
     ) -> Result<Reply, AllocError>
-        requires sound { IsSound self.old }
+        requires sound { StandsForSome self.old }
         requires quiet { wakes_left self.old ≡ [] }
         requires readers { ForReaders call.now }
         ensures answered { IfOk result (λ reply. Answered call.now self.old reply self.new) }
@@ -445,12 +445,12 @@ impl Table {
 
     /// Takes the oldest waker to wake of the object that was called last.
     pub(crate) fn take_wake(&mut self) -> Option<Waker>
-        requires { IsSound self.old }
+        requires { StandsForSome self.old }
         ensures woken { MatchOption result
             ((wakes_left self.old ≡ []) × (wakes_left self.new ≡ []))
             (λ waker. wakes_left self.old ≡ waker.0 ∷ wakes_left self.new) }
-        ensures state { Stays self.old self.new }
-        ensures sound { IsSound self.new }
+        ensures state { TableStays self.old self.new }
+        ensures sound { StandsForSome self.new }
         ensures load { load self.new.objects.items ≡ load self.old.objects.items }
     {
         let last = self.last as usize;

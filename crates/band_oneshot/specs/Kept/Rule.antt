@@ -55,5 +55,5 @@ module _ {T : Type 0} where
       (word ≡ EMPTY) × (h0 ≡ (if out then none else some None)) × (h1 ≡ some None)
   Holds words homes views = ⊥
 
-  abbrev pub IsLawful : State (Slot T) (View T) → Type 0
-  IsLawful s = Holds s.words s.homes s.views
+  abbrev pub ObeysRule : State (Slot T) (View T) → Type 0
+  ObeysRule s = Holds s.words s.homes s.views
