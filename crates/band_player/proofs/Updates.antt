@@ -21,12 +21,8 @@ use Rattle.band_player.specs.Names.{thing_from, table_of, thing_at, Updated, is_
 use Rattle.band_balance.proofs.Held.{by_bool}
 use Rattle.band_balance.proofs.Rules.{bytes_told}
 
-sets_of : {X : Type 0} (m n : BTreeMap (List ℕ) X) (k : List ℕ) (w : Option X) → Updates (slice_cmp nat_cmp) m n k w → Sets m n k w
+pub sets_of : {X : Type 0} (m n : BTreeMap (List ℕ) X) (k : List ℕ) (w : Option X) → Updates (slice_cmp nat_cmp) m n k w → Sets m n k w
 sets_of m n k w update = record { each = update.0 }
-
--- what a change of the map inside makes of what it is seen as
-pub sets_seen : {X : Type 0} (m inside n : BTreeMap (List ℕ) X) (k : List ℕ) (w : Option X) → inside ≡ m → Updates (slice_cmp nat_cmp) inside n k w → Sets m n k w
-sets_seen {X} m inside n k w seen update = subst (λ (o : BTreeMap (List ℕ) X). Sets o n k w) seen (sets_of inside n k w update)
 
 -- what a map has after a change
 module _ {X : Type 0} (m n : BTreeMap (List ℕ) X) (k : List ℕ) (w : Option X) (sets : Sets m n k w) (q : List ℕ) where
@@ -37,20 +33,19 @@ module _ {X : Type 0} (m n : BTreeMap (List ℕ) X) (k : List ℕ) (w : Option X
   at_kept other = sets.each q ∙ cond-false (is_at (slice_cmp nat_cmp k) q) w (at m q) (is_eq-slice_cmp k q ∙ other)
 
 -- a map that was written at a name
-pub sets_written : {X : Type 0} (m inside n written : BTreeMap (List ℕ) X) (k : List ℕ) (x y : X) → inside ≡ m → n ≡ written → x ≡ y → Updates (slice_cmp nat_cmp) inside written k (Some x)
-    → Sets m n k (Some y)
-sets_written {X} m inside n written k x y seen is same update =
-    subst (λ z. Sets m n k (Some z)) same (subst (λ (o : BTreeMap (List ℕ) X). Sets m o k (Some x)) (sym is) (sets_seen m inside written k (Some x) seen update))
+pub sets_written : {X : Type 0} (m n written : BTreeMap (List ℕ) X) (k : List ℕ) (x y : X) → n ≡ written → x ≡ y → Updates (slice_cmp nat_cmp) m written k (Some x) → Sets m n k (Some y)
+sets_written {X} m n written k x y is same update =
+    subst (λ z. Sets m n k (Some z)) same (subst (λ (o : BTreeMap (List ℕ) X). Sets m o k (Some x)) (sym is) (sets_of m written k (Some x) update))
 
 -- the same entries, the same at each name
 at_same : {X : Type 0} (m n : BTreeMap (List ℕ) X) → IsUnchanged m n → (name : List ℕ) → at n name ≡ at m name
 at_same m n same name = ap (λ es. lookup (is_at (slice_cmp nat_cmp name)) es) same
 
 -- a map from which a name was taken that it didn't have
-pub at_without : (m inside without n : BTreeMap (List ℕ) TokenState) (k : List ℕ) → inside ≡ m → at m k ≡ None → Updates (slice_cmp nat_cmp) inside without k None → IsUnchanged without n
+pub at_without : (m without n : BTreeMap (List ℕ) TokenState) (k : List ℕ) → at m k ≡ None → Updates (slice_cmp nat_cmp) m without k None → IsUnchanged without n
     → (q : List ℕ) → at n q ≡ at m q
-at_without m inside without n k seen free update same q =
-    let sets = sets_seen m inside without k None seen update in
+at_without m without n k free update same q =
+    let sets = sets_of m without k None update in
     at_same without n same q ∙ by_bool (bytes_eq k q)
     (λ is. at_changed m without k None sets q is ∙ sym (sym (ap (at m) (bytes_told.equal k q is)) ∙ free))
     (λ other. at_kept m without k None sets q other)

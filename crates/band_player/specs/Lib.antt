@@ -7,5 +7,4 @@ pub mod Player
 pub mod Table
 pub mod Thing
 pub mod Token
-pub mod Tokens
 pub mod Visits

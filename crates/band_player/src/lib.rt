@@ -7,7 +7,6 @@ mod object;
 mod player;
 mod table;
 mod token;
-mod tokens;
 
 pub use band_rules::Reply;
 pub use band_script::{Call, Name};

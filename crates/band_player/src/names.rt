@@ -2,20 +2,23 @@
 ghost use Rattle.std.proofs.Props.{props};
 ghost use Rattle.band_player.specs.Apart.{AreApart};
 
+use crate::boxed_token::BoxedToken;
 use crate::object::{Object, Want};
 use crate::token::Token;
-use crate::tokens::Tokens;
 use crate::{Name, Reply};
 use band_base::{Steps, Waker};
 use band_sem::Refusal;
 use std::alloc::{AllocError, Global};
 use std::collections::BTreeMap;
+use std::collections::btree_map::Entry;
 use std::sync::ledger::Ledger;
 
-/// What each live name is: an object, by its place, or a token. An object takes no room for a token.
+/// What each live name is: an object, by its place, or a token. An object takes no room for a token, and for each token
+/// there is room before it is made.
 pub(crate) struct Names {
     objects: BTreeMap<Name, u64>,
-    pub(crate) tokens: Tokens,
+    pub(crate) tokens: BTreeMap<Name, BoxedToken>,
+    alloc: Global,
     ghost apart: { AreApart objects tokens } by { Prim.hlevel props },
 }
 
@@ -36,7 +39,8 @@ impl Names {
     {
         Names {
             objects: BTreeMap::new(alloc),
-            tokens: Tokens::new(alloc),
+            tokens: BTreeMap::new(alloc),
+            alloc,
         }
     }
 
@@ -44,7 +48,7 @@ impl Names {
     pub(crate) fn is_live(&self, name: &Name) -> bool
         ensures { IsTrue result ↔ IsSome (thing_at self.now name.now) }
     {
-        self.objects.contains_key(name) || self.tokens.contains(name)
+        self.objects.contains_key(name) || self.tokens.contains_key(name)
     }
 
     /// Whether a name is an object's.
@@ -60,7 +64,7 @@ impl Names {
     {
         match self.objects.get(name) {
             Some(place) => Ok(*place),
-            None if self.tokens.contains(name) => Err(Refusal::Kind),
+            None if self.tokens.contains_key(name) => Err(Refusal::Kind),
             None => Err(Refusal::Unknown),
         }
     }
@@ -72,7 +76,7 @@ impl Names {
             (λ refusal. (mode : Mode) → held_as mode (thing_at self.now name.now) ≡ Err refusal) }
     {
         match self.tokens.get(name) {
-            Some(token) => Ok(token),
+            Some(boxed) => Ok(boxed.get()),
             None if self.objects.contains_key(name) => Err(Refusal::Kind),
             None => Err(Refusal::Unknown),
         }
@@ -138,7 +142,21 @@ impl Names {
             steps.old steps.new }
         ensures waits { result ≡ Ok Reply.Pending → steps.old < steps.new }
     {
-        self.tokens.ask(object, want, name, waker, steps)
+        let room = BoxedToken::new(self.alloc)?;
+        let Ok(Entry::Vacant(entry)) = self.tokens.entry(name) else {
+            room.lose();
+            return Err(AllocError);
+        };
+        let (token, reply) = match object.request(want).poll(object, waker, steps) {
+            Ok(made) => made,
+            Err(error) => {
+                // It is filled and taken out, since an entry that is let go says nothing of its map.
+                entry.insert_entry(room).remove().lose();
+                return Err(error);
+            }
+        };
+        let _ = entry.insert(room.filled(token));
+        Ok(reply)
     }
 
     /// Adds a name that isn't live, for what an object offers and can give without waiting.
@@ -158,7 +176,14 @@ impl Names {
         ensures steady { OnOk result (IsSteady object.new) }
         ensures err { OnErr result (AreSame self.old self.new × (object.new ≡ object.old)) }
     {
-        self.tokens.take(object, want, name)
+        let room = BoxedToken::new(self.alloc)?;
+        let Ok(Entry::Vacant(entry)) = self.tokens.entry(name) else {
+            room.lose();
+            return Err(AllocError);
+        };
+        let token = object.try_take(want).unwrap();
+        let _ = entry.insert(room.filled(token));
+        Ok(())
     }
 
     /// Adds a name that isn't live, for `n` of a permit's.
@@ -171,7 +196,14 @@ impl Names {
         ensures parted { OnOk result (permit.new ≡ counted (count_of permit.old - n) permit.old) }
         ensures err { OnErr result (AreSame self.old self.new × (permit.new ≡ permit.old)) }
     {
-        self.tokens.add_part(permit, name, n)
+        let room = BoxedToken::new(self.alloc)?;
+        let Ok(Entry::Vacant(entry)) = self.tokens.entry(name) else {
+            room.lose();
+            return Err(AllocError);
+        };
+        let part = permit.split(n);
+        let _ = entry.insert(room.filled(part));
+        Ok(())
     }
 
     /// Moves `n` permits of the one with this name to a new one, and answers the place of their object.
@@ -216,7 +248,8 @@ impl Names {
         ensures before { option_map thing_of result ≡ thing_at self.old name.now }
         ensures updated { Updated (thing_at self.old) (thing_at self.new) name.now None }
     {
-        self.tokens.remove(name)
+        let boxed = self.tokens.remove(name)?;
+        Some(boxed.into_token())
     }
 
     /// Ends the name of a request that was answered that its semaphore is closed, and of no other.
@@ -245,7 +278,14 @@ impl Names {
 
     /// Loses every token.
     pub(crate) fn lose(self) {
-        let Names { objects: _, tokens } = self;
-        tokens.lose();
+        let Names {
+            objects: _,
+            mut tokens,
+            alloc: _,
+        } = self;
+        while let Some((_, token)) = tokens.pop_first() {
+            token.lose();
+        }
+        tokens.destroy_empty();
     }
 }

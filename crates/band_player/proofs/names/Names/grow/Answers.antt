@@ -5,7 +5,7 @@ use Rattle.band_player.specs.Moves.{held_as}
 use Rattle.band_player.specs.Thing.{place_at}
 use Rattle.band_player.specs.Token.{TokenState, Holding, thing_of, count_of, counted}
 use Rattle.band_player.proofs.Named.{held_token}
-use Rattle.band_player.proofs.Updates.{token_there, token_filled, apart_filled}
+use Rattle.band_player.proofs.Updates.{sets_of, token_there, token_filled, apart_filled}
 use Rattle.band_player.proofs.names.Names.grow.Goals as goal
 
 pub join-requires : goal.join-requires
@@ -20,7 +20,7 @@ pub invariant_of-self : goal.invariant_of-self
 invariant_of-self c = record {
   apart =
       apart_filled c.args.self.now c.args.name.now (c.get_mut.follows.lender c.fill.new.self) c.take-permit.result c.fill.new.self (search rules)
-      (c.get_mut.follows.holds c.fill.new.self (search rules));
+      (sets_of c.args.self.now.tokens (c.get_mut.follows.lender c.fill.new.self) c.args.name.now (Some c.fill.new.self) ((c.get_mut.follows.holds c.fill.new.self).3 (search rules)));
 }
 
 pub returns : goal.returns
@@ -34,5 +34,5 @@ returns c =
       whole = c.requires.whole;
       was = c.requires.is;
       updated =
-          token_filled c.args.self.now c.args.name.now (c.get_mut.follows.lender c.fill.new.self) c.take-permit.result _ _ was left (c.get_mut.follows.holds c.fill.new.self (search rules));
+          token_filled c.args.self.now c.args.name.now (c.get_mut.follows.lender c.fill.new.self) c.take-permit.result _ _ was left (sets_of c.args.self.now.tokens (c.get_mut.follows.lender c.fill.new.self) c.args.name.now (Some c.fill.new.self) ((c.get_mut.follows.holds c.fill.new.self).3 (search rules)));
     }

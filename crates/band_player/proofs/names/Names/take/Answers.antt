@@ -1,19 +1,26 @@
-use Rattle.std.proofs.Common.{◌≡◌, None, ap}
-use Rattle.band_player.specs.Apart.{at}
+use Rattle.std.proofs.Common.{◌≡◌, Some, ap, ◌∙◌, rules}
+use Rattle.std.specs.BTreeMap.Entry.{map_with_value}
+use Rattle.band_player.specs.Moves.{had_of}
 use Rattle.band_player.specs.Names.{is_object}
-use Rattle.band_player.proofs.Updates.{free_of_object, token_set, apart_added, if_done, on_ok}
+use Rattle.band_player.specs.Token.{Holding}
+use Rattle.band_player.proofs.Updates.{free_of_object, token_set, apart_set, sets_written}
 use Rattle.band_player.proofs.names.Names.take.Goals as goal
 
-pub invariant_of-self : goal.invariant_of-self
-invariant_of-self c =
-    let free : at c.args.self.now.objects c.args.name ≡ None = free_of_object c.args.self.now c.args.name (ap is_object c.requires.free) in
+pub invariant_of-self-2 : goal.invariant_of-self-2
+invariant_of-self-2 c =
+    let token : c.unwrap-token.result ≡ Holding (had_of c.args.want c.args.object.now) = search rules in
     record {
       apart =
-          apart_added c.args.self.now c.args.name c.take.new.self c.take.result free
-          (if_done c.take.result c.take.ensures.ok (λ x sets. (_, sets))) c.take.ensures.same;
+          apart_set c.args.self.now c.args.name c.self-3-1.given.0 (Some (Holding (had_of c.args.want c.args.object.now))) (free_of_object c.args.self.now c.args.name (ap is_object c.requires.free))
+          (sets_written c.args.self.now.tokens c.self-3-1.given.0 (map_with_value c.in-Ok-Vacant.field-0 c.insert.result.now) c.args.name c.insert.result.now (Holding (had_of c.args.want c.args.object.now)) (search rules)
+          (c.insert.ensures.value ∙ c.filled.ensures ∙ token)
+          (c.in-Ok-Vacant.ensures.update.0 c.insert.result.now));
     }
 
 pub returns-clause-ok : goal.returns-clause-ok
 returns-clause-ok c =
-    let free : at c.args.self.now.objects c.args.name ≡ None = free_of_object c.args.self.now c.args.name (ap is_object c.requires.free) in
-    on_ok c.take.result c.take.ensures.ok (λ sets. token_set c.args.self.now c.args.name c.take.new.self _ free sets)
+    let token : c.unwrap-token.result ≡ Holding (had_of c.args.want c.args.object.now) = search rules in
+    token_set c.args.self.now c.args.name c.self-3-1.given.0 (Some (Holding (had_of c.args.want c.args.object.now))) (free_of_object c.args.self.now c.args.name (ap is_object c.requires.free))
+    (sets_written c.args.self.now.tokens c.self-3-1.given.0 (map_with_value c.in-Ok-Vacant.field-0 c.insert.result.now) c.args.name c.insert.result.now (Holding (had_of c.args.want c.args.object.now)) (search rules)
+    (c.insert.ensures.value ∙ c.filled.ensures ∙ token)
+    (c.in-Ok-Vacant.ensures.update.0 c.insert.result.now))

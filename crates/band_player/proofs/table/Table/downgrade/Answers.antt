@@ -10,7 +10,7 @@ use Rattle.band_player.specs.Objects.{IsLikeObject}
 use Rattle.band_player.specs.Thing.{place_at}
 use Rattle.band_player.specs.Token.{TokenState, Holding, thing_of, count_of}
 use Rattle.band_player.proofs.Named.{held_token}
-use Rattle.band_player.proofs.Updates.{token_there, token_filled, apart_filled}
+use Rattle.band_player.proofs.Updates.{sets_of, token_there, token_filled, apart_filled}
 use Rattle.band_player.proofs.Visits.{pays_at}
 use Rattle.band_player.proofs.Fitting.{known_token}
 use Rattle.band_player.proofs.table.Table.downgrade.Goals as goal
@@ -33,7 +33,7 @@ pub invariant_of-self : goal.invariant_of-self
 invariant_of-self g c = record {
   apart =
       apart_filled c.args.self.now.names c.args.name.now (c.get_mut.follows.lender c.fill.new.self) c.take-writer.result c.fill.new.self (search rules)
-      (c.get_mut.follows.holds c.fill.new.self (search rules));
+      (sets_of c.args.self.now.names.tokens (c.get_mut.follows.lender c.fill.new.self) c.args.name.now (Some c.fill.new.self) ((c.get_mut.follows.holds c.fill.new.self).3 (search rules)));
 }
 
 pub returns-clause-answered : goal.returns-clause-answered
@@ -58,7 +58,7 @@ returns-clause-answered g c = answered _ _ _ _ c.requires.sound (λ state stands
     })
     (token_filled c.args.self.now.names c.args.name.now (c.get_mut.follows.lender c.fill.new.self) token _ _ was
     (c.fill.ensures ∙ c.downgrade_at.ensures.reader ∙ ap (λ (t : TokenState). Holding (record { mode = Read; of = place_at (thing_of t); count = 1 })) is)
-    (c.get_mut.follows.holds c.fill.new.self (search rules))) at)
+    (sets_of c.args.self.now.names.tokens (c.get_mut.follows.lender c.fill.new.self) c.args.name.now (Some c.fill.new.self) ((c.get_mut.follows.holds c.fill.new.self).3 (search rules)))) at)
 
 pub returns-clause-visits : goal.returns-clause-visits
 returns-clause-visits g c =

@@ -9,7 +9,7 @@ use Rattle.band_player.proofs.Calls.{polls_token, polls_object, polls_nothing}
 use Rattle.band_player.proofs.Follow.{answered}
 use Rattle.band_player.proofs.Named.{object_from}
 use Rattle.band_player.proofs.Polled.{can_poll, was_polled}
-use Rattle.band_player.proofs.Updates.{token_there, no_token_kind, token_filled, apart_filled, updated_twice}
+use Rattle.band_player.proofs.Updates.{sets_of, token_there, no_token_kind, token_filled, apart_filled, updated_twice}
 use Rattle.band_player.proofs.Visits.{pays_at}
 use Rattle.band_player.proofs.Fitting.{known_token}
 use Rattle.band_player.proofs.table.Table.poll.Goals as goal
@@ -50,14 +50,14 @@ pub invariant_of-self-in-Err-poll : goal.invariant_of-self-in-Err-poll
 invariant_of-self-in-Err-poll g c = record {
   apart =
       apart_filled c.args.self.now.names c.args.name.now (c.get_mut.follows.lender c.take-token.new.self) c.take-token.result c.take-token.new.self (search rules)
-      (c.get_mut.follows.holds c.take-token.new.self (search rules));
+      (sets_of c.args.self.now.names.tokens (c.get_mut.follows.lender c.take-token.new.self) c.args.name.now (Some c.take-token.new.self) ((c.get_mut.follows.holds c.take-token.new.self).3 (search rules)));
 }
 
 pub invariant_of-self-in-Ok-poll : goal.invariant_of-self-in-Ok-poll
 invariant_of-self-in-Ok-poll g c = record {
   apart =
       apart_filled c.args.self.now.names c.args.name.now (c.get_mut.follows.lender c.fill.new.self) c.take-token.result c.fill.new.self (search rules)
-      (c.get_mut.follows.holds c.fill.new.self (search rules));
+      (sets_of c.args.self.now.names.tokens (c.get_mut.follows.lender c.fill.new.self) c.args.name.now (Some c.fill.new.self) ((c.get_mut.follows.holds c.fill.new.self).3 (search rules)));
 }
 
 pub returns-clause-answered : goal.returns-clause-answered
@@ -68,7 +68,7 @@ returns-clause-answered g c = answered _ _ _ _ c.requires.sound (λ state stands
     let there = (known_token c.args.self.now c.args.name.now token c.place-place.result c.requires.sound was c.place-place.ensures).there object c.index_mut-object.ensures.value in
     polls_token c.args.self.now c.requires.quiet state stands _ c.args.name.now c.args.waker.0 c.in-Ok-poll.reply token c.in-Ok-poll.token object c.poll.new.object
     (token_there c.args.self.now.names c.args.name.now token was) there c.in-Ok-poll.ensures.ok
-    (let filled = token_filled c.args.self.now.names c.args.name.now (c.get_mut.follows.lender c.fill.new.self) token _ _ was c.fill.ensures (c.get_mut.follows.holds c.fill.new.self (search rules)) in
+    (let filled = token_filled c.args.self.now.names c.args.name.now (c.get_mut.follows.lender c.fill.new.self) token _ _ was c.fill.ensures (sets_of c.args.self.now.names.tokens (c.get_mut.follows.lender c.fill.new.self) c.args.name.now (Some c.fill.new.self) ((c.get_mut.follows.holds c.fill.new.self).3 (search rules))) in
     subst (λ (thing : Option Thing). Updated (thing_at c.args.self.now.names) (thing_at c.end_closed.new.self) c.args.name.now (left_by c.in-Ok-poll.reply thing))
     (filled.here c.args.name.now (bytes_told.itself c.args.name.now)) (updated_twice filled c.end_closed.ensures))
     (ap (λ k. slice_set c.args.self.now.objects.items k c.poll.new.object) c.place-place.ensures) c.place-place.ensures)

@@ -1,5 +1,0 @@
-use Rattle.std.specs.BTreeMap.{btree_map_len}
-use Rattle.band_player.proofs.tokens.Tokens.lose.Given as goal
-
-abbrev pub decreases-loop-token : goal.decreases-loop-token
-decreases-loop-token l = btree_map_len l.map
