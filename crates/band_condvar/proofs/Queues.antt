@@ -1,5 +1,5 @@
 -- What the calls of a queue keep.
-use Rattle.std.proofs.Common.{◌≡◌, ◌≢◌, refl, ℕ, suc, ◌+◌, List, [], ◌∷◌, ◌++◌, append_assoc, append-nil, map, drop, get_or, arith, ap, sym, ◌∙◌, subst, Option, Some, None, is_some, Bool, true, false}
+use Rattle.std.proofs.Common.{◌≡◌, ◌≢◌, refl, ℕ, suc, List, [], ◌∷◌, ◌++◌, append_assoc, append-nil, map, drop, get_or, arith, ap, sym, ◌∙◌, subst, Option, Some, None, is_some, Bool, true, false}
 use Rattle.std.specs.Prelude.{◌==◌, flat_map}
 use Rattle.std.specs.Option.{option_map}
 use Rattle.std.proofs.Math.Seq.{map-set_same}

@@ -1,13 +1,11 @@
 -- A poll of a wait with a condition, put together: room is made, the guard is had or not, and then the condition is asked.
-use Rattle.std.proofs.Common.{◌≡◌, refl, ℕ, ◌+◌, ap, sym, ◌∙◌, subst, inl, inr, arith, Bool, true, false, not, ◌⊎◌, List, [], ◌∷◌, Option, Some, None, is_some, Result, Ok, Err}
+use Rattle.std.proofs.Common.{◌≡◌, refl, ℕ, ◌+◌, ap, sym, ◌∙◌, subst, inl, inr, arith, Bool, true, false, not, ◌⊎◌, Option, Some, None, is_some, Result, Ok, Err}
 use Rattle.std.specs.Borrow.{MutBor}
 use Rattle.std.specs.Fn.{Mut, Called, CalledAtMut}
-use Rattle.std.specs.Prelude.{◌==◌, ◌&&◌, if◌then◌else◌, OnOk, MatchBool}
+use Rattle.std.specs.Prelude.{◌&&◌, OnOk, MatchBool}
 use Rattle.std.specs.Result.{is_err}
 use Rattle.std.specs.declared.alloc.AllocError.{AllocError}
-use Rattle.std.proofs.lemmas.Bool.Decides.{nat_tests}
-use Rattle.std.proofs.lemmas.List.Sums.{sum_by-cons}
-use Rattle.band_balance.specs.Line.{is_served, entry_named}
+use Rattle.band_balance.specs.Line.{is_served}
 use Rattle.band_base.specs.declared.poll.Poll.{Poll}
 use Rattle.band_base.specs.declared.poll.Poll.TheVariants.{Ready, Pending}
 use Rattle.band_base.specs.declared.poll.PollError.{PollError}
@@ -20,7 +18,7 @@ use Rattle.band_condvar.specs.declared.place.Place.{Place}
 use Rattle.band_condvar.specs.declared.place.Place.TheVariants.{Queued, Chosen, Released}
 use Rattle.band_condvar.specs.Batons.{chosen_count, batons, one_if, ended_while}
 use Rattle.band_condvar.specs.Condvar.{CondvarState, place_at, is_queued, with_waker, gone, with_spare}
-use Rattle.band_condvar.specs.Waits.{Stage, Enqueue, Registered, Reacquiring, Finished, Wait, Monitor, monitor, Test, Registers, Leaves, Reacquires, PollsPlace, PollsAt, Acquires, Answers, Asks, AsksInTurn, PollsWhileIf, PollsWhile, IsRoomier, JoinsMutex, has_turn, has_baton}
+use Rattle.band_condvar.specs.Waits.{Stage, Enqueue, Registered, Reacquiring, Finished, Wait, Monitor, monitor, Test, Registers, Leaves, PollsPlace, PollsAt, Acquires, Answers, Asks, AsksInTurn, PollsWhileIf, PollsWhile, IsRoomier, JoinsMutex, has_turn, has_baton}
 use Rattle.band_condvar.proofs.Batons.{joins, poll-keeps, acquires-keep, none-ended}
 
 -- a call at a `&mut`, by the values there

@@ -1,5 +1,5 @@
 -- The waits for a condition variable: what their polls and their cancel make of it and of its mutex.
-use Rattle.std.specs.Prelude.{◌≡◌, ◌≢◌, ℕ, ◌+◌, ◌*◌, ◌≤◌, List, [], ◌==◌, ◌&&◌, Bool, true, false, not, if◌then◌else◌, IsTrue, Option, Some, None, IsSome, Result, Ok, Err}
+use Rattle.std.specs.Prelude.{◌≡◌, ◌≢◌, ℕ, ◌+◌, ◌*◌, ◌≤◌, List, [], ◌&&◌, Bool, true, false, not, if◌then◌else◌, IsTrue, Option, Some, None, IsSome, Result, Ok, Err}
 use Rattle.std.specs.Borrow.{MutBor}
 use Rattle.std.specs.Option.{option_map_or}
 use Rattle.std.specs.Fn.{Mut, Takes, CalledAtMut}
@@ -127,6 +127,19 @@ PollsAt (Reacquiring baton slot) of waker old result stage new =
     Reacquires baton slot of waker old result stage new
 PollsAt Finished of waker old result stage new =
     (result ≡ Err errors.Finished) × (stage ≡ Finished) × (new ≡ old)
+
+-- a guard that is given is of this mutex, and held there
+abbrev pub GivesGuard : Result (Poll Permit) PollError → SemaphoreState → Type 0
+GivesGuard (Ok (Ready guard)) mutex = (guard.of ≡ mutex.number) × (guard.count ≤ mutex.held)
+GivesGuard (Ok Pending) mutex = Unit {0}
+GivesGuard (Err error) mutex = Unit {0}
+
+-- a wait has the guard that it was made with
+abbrev pub has_guard : Stage → Bool
+has_guard (Enqueue guard) = true
+has_guard (Registered slot) = false
+has_guard (Reacquiring baton slot) = false
+has_guard Finished = false
 
 -- what a cancel leaves of the condition variable: the wait is gone, and one that had the baton hands it on to the first
 -- that is in line then

@@ -5,8 +5,8 @@ ghost use Rattle.band_base.specs.declared.poll.Poll.TheVariants as poll;
 ghost use Rattle.band_condvar.specs.Condvar.{IsCondvar, place_at, is_queued, one_notified, AllStay};
 ghost use Rattle.band_condvar.specs.declared.stage.Stage.TheVariants as stages;
 ghost use Rattle.band_condvar.specs.Kept.Queue.{HasRoom};
-ghost use Rattle.band_condvar.specs.Kept.Stage.{stage_of, slot_of, Fits, GivesGuardOf, AcquireVisits};
-ghost use Rattle.band_condvar.specs.Waits.{Enqueue, Registered, IsHere, woken_by, LeavesMutex, IsRegistered, monitor, Registers, Leaves, Reacquires, PollsAt, Acquires, LeavesOthers, OthersStay, LetsGo, cancelled, has_turn, PollVisits, CancelVisits, unlock_visits};
+ghost use Rattle.band_condvar.specs.Kept.Stage.{stage_of, slot_of, Fits, AcquireVisits};
+ghost use Rattle.band_condvar.specs.Waits.{Enqueue, Registered, IsHere, woken_by, LeavesMutex, IsRegistered, monitor, Registers, Leaves, Reacquires, PollsAt, Acquires, LeavesOthers, OthersStay, LetsGo, GivesGuard, has_guard, cancelled, has_turn, PollVisits, CancelVisits, unlock_visits};
 ghost use Rattle.band_line.specs.Visits.{Visits};
 ghost use Rattle.band_sem.specs.Request.{Joined};
 ghost use Rattle.band_sem.specs.Laws.{KeepsOrder};
@@ -56,6 +56,8 @@ impl Stage {
         // Its mutex is never closed.
         ensures never_closed { IsErrOf result.answer PollError.Closed → ⊥ }
         ensures fits { Fits m.old.number result.next }
+        ensures guard { GivesGuard result.answer m.new }
+        ensures goes_on { result.answer ≡ Ok poll.Pending → has_guard (stage_of result.next) ≡ false }
         ensures here { IsHere (stage_of result.next) queue.new.state m.new }
         ensures others { LeavesOthers (stage_of self) queue.old.state queue.new.state }
         ensures number { m.new.number ≡ m.old.number }
@@ -85,7 +87,8 @@ impl Stage {
             result.answer (stage_of result.next) (monitor queue.new.state m.new) }
         ensures never_closed { IsErrOf result.answer PollError.Closed → ⊥ }
         ensures fits { Fits m.old.number result.next }
-        ensures guard { GivesGuardOf m.new.number result.answer }
+        ensures guard { GivesGuard result.answer m.new }
+        ensures goes_on { result.answer ≡ Ok poll.Pending → has_guard (stage_of result.next) ≡ false }
         ensures here { IsHere (stage_of result.next) queue.new.state m.new }
         ensures others { LeavesOthers (stage_of self) queue.old.state queue.new.state }
         ensures room { HasRoom queue.old → HasRoom queue.new }
@@ -260,6 +263,8 @@ fn enqueue<L: Ledger>(
         result.answer (stage_of result.next) (monitor queue.new.state m.new) }
     ensures never_closed { IsErrOf result.answer PollError.Closed → ⊥ }
     ensures fits { Fits m.old.number result.next }
+    ensures guard { GivesGuard result.answer m.new }
+    ensures goes_on { result.answer ≡ Ok poll.Pending → has_guard (stage_of result.next) ≡ false }
     ensures here { IsHere (stage_of result.next) queue.new.state m.new }
     ensures others { LeavesOthers (Enqueue guard) queue.old.state queue.new.state }
     ensures number { m.new.number ≡ m.old.number }
@@ -298,7 +303,8 @@ fn leave<L: Ledger>(
         result.answer (stage_of result.next) (monitor queue.new.state m.new) }
     ensures never_closed { IsErrOf result.answer PollError.Closed → ⊥ }
     ensures fits { Fits m.old.number result.next }
-    ensures guard { GivesGuardOf m.new.number result.answer }
+    ensures guard { GivesGuard result.answer m.new }
+    ensures goes_on { result.answer ≡ Ok poll.Pending → has_guard (stage_of result.next) ≡ false }
     ensures here { IsHere (stage_of result.next) queue.new.state m.new }
     ensures others { LeavesOthers (Registered id) queue.old.state queue.new.state }
     ensures room { HasRoom queue.old → HasRoom queue.new }
@@ -349,7 +355,8 @@ fn reacquire<L: Ledger>(
         (monitor queue.now.state m.old) result.answer (stage_of result.next) (monitor queue.now.state m.new) }
     ensures never_closed { IsErrOf result.answer PollError.Closed → ⊥ }
     ensures fits { Fits m.old.number result.next }
-    ensures guard { GivesGuardOf m.new.number result.answer }
+    ensures guard { GivesGuard result.answer m.new }
+    ensures goes_on { result.answer ≡ Ok poll.Pending → has_guard (stage_of result.next) ≡ false }
     ensures here { IsHere (stage_of result.next) queue.now.state m.new }
     ensures number { m.new.number ≡ m.old.number }
     ensures order { KeepsOrder m.old.line m.new.line }

@@ -1,10 +1,10 @@
 //! A wait for a condition variable.
-ghost use Rattle.std.specs.Prelude.{◌≡◌, ◌+◌, ◌++◌, ◌≤◌, IsErrOf};
+ghost use Rattle.std.specs.Prelude.{◌≡◌, ◌+◌, ◌++◌, ◌≤◌, false, IsErrOf};
 ghost use Rattle.band_base.specs.declared.poll.Poll.TheVariants as poll;
 ghost use Rattle.band_condvar.specs.Condvar.{IsCondvar};
 ghost use Rattle.band_condvar.specs.Kept.Queue.{HasRoom};
-ghost use Rattle.band_condvar.specs.Kept.Stage.{GivesGuardOf, AcquireVisits};
-ghost use Rattle.band_condvar.specs.Waits.{Enqueue, Finished, IsHere, woken_by, LeavesMutex, IsRegistered, has_turn, monitor, Registers, Acquires, Polls, LeavesOthers, OthersStay, LetsGo, cancelled, PollVisits, CancelVisits, unlock_visits};
+ghost use Rattle.band_condvar.specs.Kept.Stage.{AcquireVisits};
+ghost use Rattle.band_condvar.specs.Waits.{Enqueue, Finished, IsHere, woken_by, LeavesMutex, IsRegistered, has_turn, monitor, Registers, Acquires, Polls, LeavesOthers, OthersStay, LetsGo, GivesGuard, has_guard, cancelled, PollVisits, CancelVisits, unlock_visits};
 ghost use Rattle.band_sem.specs.Laws.{KeepsOrder};
 ghost use Rattle.band_line.specs.Visits.{Visits};
 ghost use Rattle.band_sem.specs.Semaphore.{IsLawful};
@@ -68,6 +68,8 @@ impl CondWait {
         ensures polls { Polls self.old waker (monitor cv.old m.old) result self.new (monitor cv.new m.new) }
         // Its mutex is never closed.
         ensures never_closed { IsErrOf result PollError.Closed → ⊥ }
+        ensures guard { GivesGuard result m.new }
+        ensures goes_on { result ≡ Ok poll.Pending → has_guard self.new.stage ≡ false }
         ensures here { IsHere self.new.stage cv.new m.new }
         ensures others { LeavesOthers self.old.stage cv.old cv.new }
         ensures number { m.new.number ≡ m.old.number }
@@ -113,7 +115,7 @@ impl CondWait {
         ensures acquires { Acquires self.old.stage self.old.of waker (monitor queue.old.state m.old)
             result self.new.stage (monitor queue.new.state m.new) }
         ensures never_closed { IsErrOf result PollError.Closed → ⊥ }
-        ensures guard { GivesGuardOf m.new.number result }
+        ensures guard { GivesGuard result m.new }
         ensures here { IsHere self.new.stage queue.new.state m.new }
         ensures others { LeavesOthers self.old.stage queue.old.state queue.new.state }
         ensures room { HasRoom queue.old → HasRoom queue.new }

@@ -1,5 +1,4 @@
 use Rattle.std.proofs.Common.{ap, sym, ◌∙◌, subst, Ok}
-use Rattle.band_base.specs.declared.poll.Poll.TheVariants.{Pending}
 use Rattle.band_condvar.specs.Condvar.{with_spare}
 use Rattle.band_condvar.specs.Waits.{monitor, test, PollsWhile}
 use Rattle.band_condvar.proofs.Order.{asked-order}
