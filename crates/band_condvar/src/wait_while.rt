@@ -121,14 +121,14 @@ impl<F> CondWaitWhile<F> {
         requires callable { TakesAtMut F.FnMut self.old.condition value.old }
         ensures of { self.new.wait.of ≡ self.old.wait.of }
         ensures asks { Asks F.FnMut guard waker (test self.old.condition value.old)
-            (monitor queue.old.state m.old) (Ok result) (test self.new.condition value.new)
-            self.new.wait.stage (monitor queue.new.state m.new) }
+            (monitor queue.old m.old) (Ok result) (test self.new.condition value.new)
+            self.new.wait.stage (monitor queue.new m.new) }
         ensures guard { GivesGuard (Ok result) m.new }
         ensures goes_on { result ≡ poll.Pending → has_guard self.new.wait.stage ≡ false }
-        ensures here { IsHere self.new.wait.stage queue.new.state m.new }
-        ensures others { LeavesOthers (Enqueue guard) queue.old.state queue.new.state }
+        ensures here { IsHere self.new.wait.stage queue.new m.new }
+        ensures others { LeavesOthers (Enqueue guard) queue.old queue.new }
         ensures number { m.new.number ≡ m.old.number }
-        ensures sound { IsCondvar queue.new.state }
+        ensures sound { IsCondvar queue.new }
         ensures lawful { IsLawful m.new }
         ensures whole { IsWhole 1 m.new }
         ensures visits { Visits 0 (unlock_visits m.old m.new + 2) steps.old steps.new }
