@@ -15,9 +15,10 @@ use Rattle.band_line.specs.WaitList.{first_waiter}
 use Rattle.band_sem.specs.Permit.{Permit}
 use Rattle.band_condvar.specs.declared.place.Place.{Place}
 use Rattle.band_condvar.specs.declared.place.Place.TheVariants.{Queued, Chosen, Released}
+use Rattle.band_signal.specs.WaitQueue.{place_at}
 use Rattle.band_condvar.specs.Batons.{baton_in, chosen_count, batons, ended, ended_while}
-use Rattle.band_condvar.specs.Condvar.{CondvarState, IsCondvar, place_at, is_queued, is_chosen, called, chosen_at, one_notified, released, all_notified, joined, without}
-use Rattle.band_condvar.specs.Waits.{Stage, Enqueue, Registered, Reacquiring, Finished, Monitor, Leaves, PollsPlace, PollsAt, Acquires, has_baton, uncalled, cancelled}
+use Rattle.band_condvar.specs.Condvar.{CondvarState, IsCondvar, is_queued, is_chosen, called, chosen_at, one_notified, released, all_notified, joined, without}
+use Rattle.band_condvar.specs.Waits.{Stage, Enqueue, Registered, Reacquiring, Finished, Monitor, with_wakes_of, Leaves, PollsPlace, PollsAt, Acquires, has_baton, uncalled, cancelled}
 use Rattle.band_line.proofs.Leaving.{is_in, in_first}
 
 -- A slot is written.
@@ -68,8 +69,8 @@ notify-all state =
     at (x ∷ xs) = ap (λ n. n ∷ map baton_in (map (option_map released) xs)) (alike x) ∙ ap (λ ns. baton_in x ∷ ns) (at xs)
 
 -- A poll.
-pub joins : (waker : Waker) (spare : ℕ) (state : CondvarState) → place_at (next_slot state.line.nodes) state ≡ None → chosen_count (joined waker spare state) ≡ chosen_count state
-joins waker spare state vacant = by_vacated state.line.nodes.vacated refl
+pub joins : (waker : Waker) (spare room : ℕ) (state : CondvarState) → place_at (next_slot state.line.nodes) state ≡ None → chosen_count (joined waker spare room state) ≡ chosen_count state
+joins waker spare room state vacant = by_vacated state.line.nodes.vacated refl
   where
     by_vacated : (vacated : List ℕ) → state.line.nodes.vacated ≡ vacated → sum_by baton_in (filled (Queued waker) state.line.nodes.slots state.line.nodes.vacated) ≡ sum_by baton_in state.line.nodes.slots
     by_vacated [] is =
@@ -110,10 +111,11 @@ leaves-without slot of waker old (Err error) next new here leaves = absurd leave
 pub poll-keeps : (stage : Stage) (of : ℕ) (waker : Waker) (old : Monitor) (result : Result (Poll Permit) PollError) (next : Stage) (new : Monitor)
     → PollsAt stage of waker old result next new → Keeps stage old.condvar result (has_baton stage old.condvar) next new.condvar
 poll-keeps (Enqueue guard) of waker old (Ok Pending) next new (ends, vacant, is, given) =
-    let count = ap (λ (c : CondvarState). chosen_count c) is ∙ joins waker new.condvar.line.nodes.spare old.condvar vacant in
+    let count = ap (λ (c : CondvarState). chosen_count c) is ∙ joins waker new.condvar.line.nodes.spare new.condvar.room old.condvar vacant in
     ap (λ s. batons s new.condvar + 0) ends ∙ omega (arith, count)
 poll-keeps (Enqueue guard) of waker old (Ok (Ready given)) next new polls = absurd polls
-poll-keeps (Enqueue guard) of waker old (Err errors.NoMemory) next new (ends, is) = unchanged (Enqueue guard) next old new ends is
+poll-keeps (Enqueue guard) of waker old (Err errors.NoMemory) next new (none, ends, is) =
+    unchanged (Enqueue guard) next (with_wakes_of new old) new ends is
 poll-keeps (Enqueue guard) of waker old (Err error) next new polls = absurd polls
 poll-keeps (Registered slot) of waker old result next new polls = by_place (place_at slot old.condvar) refl polls
   where

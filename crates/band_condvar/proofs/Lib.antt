@@ -1,4 +1,5 @@
 mod Batons
+pub mod Here
 mod Order
 mod Queues
 mod Requests

@@ -13,7 +13,8 @@ use Rattle.band_sem.specs.Semaphore.{SemaphoreState, IsLike, is_slot, taken, giv
 use Rattle.band_sem.proofs.Laws.{KeepsOrder-gives_back, KeepsOrder-cancels}
 use Rattle.band_condvar.specs.declared.place.Place.{Place}
 use Rattle.band_condvar.specs.declared.place.Place.TheVariants.{Queued, Chosen, Released}
-use Rattle.band_condvar.specs.Condvar.{place_at, gone}
+use Rattle.band_condvar.specs.Condvar.{gone}
+use Rattle.band_signal.specs.WaitQueue.{place_at}
 use Rattle.band_condvar.specs.Waits.{Stage, Enqueue, Registered, Reacquiring, Finished, Monitor, monitor, Test, PollsPlace, Acquires, Asks}
 
 -- who was granted a permit and gives it back leaves the line as one that is cancelled

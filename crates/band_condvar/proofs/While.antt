@@ -1,13 +1,11 @@
 -- A poll of a wait with a condition, put together: room is made, the guard is had or not, and then the condition is asked.
-use Rattle.std.proofs.Common.{◌≡◌, refl, ℕ, ◌+◌, ap, sym, ◌∙◌, subst, inl, inr, arith, Bool, true, false, not, ◌⊎◌, List, [], ◌∷◌, Option, Some, None, is_some, Result, Ok, Err}
+use Rattle.std.proofs.Common.{◌≡◌, refl, ℕ, ◌+◌, ap, sym, ◌∙◌, subst, inl, inr, arith, Bool, true, false, not, ◌⊎◌, Option, Some, None, is_some, Result, Ok, Err}
 use Rattle.std.specs.Borrow.{MutBor}
 use Rattle.std.specs.Fn.{Mut, Called, CalledAtMut}
-use Rattle.std.specs.Prelude.{◌==◌, ◌&&◌, if◌then◌else◌, OnOk, MatchBool}
+use Rattle.std.specs.Prelude.{◌&&◌, OnOk, MatchBool}
 use Rattle.std.specs.Result.{is_err}
 use Rattle.std.specs.declared.alloc.AllocError.{AllocError}
-use Rattle.std.proofs.lemmas.Bool.Decides.{nat_tests}
-use Rattle.std.proofs.lemmas.List.Sums.{sum_by-cons}
-use Rattle.band_balance.specs.Line.{is_served, entry_named}
+use Rattle.band_balance.specs.Line.{is_served}
 use Rattle.band_base.specs.declared.poll.Poll.{Poll}
 use Rattle.band_base.specs.declared.poll.Poll.TheVariants.{Ready, Pending}
 use Rattle.band_base.specs.declared.poll.PollError.{PollError}
@@ -18,9 +16,10 @@ use Rattle.band_sem.specs.Semaphore as sem
 use Rattle.band_sem.specs.Semaphore.{SemaphoreState, is_slot, is_granted, taken, received}
 use Rattle.band_condvar.specs.declared.place.Place.{Place}
 use Rattle.band_condvar.specs.declared.place.Place.TheVariants.{Queued, Chosen, Released}
+use Rattle.band_signal.specs.WaitQueue.{place_at}
 use Rattle.band_condvar.specs.Batons.{chosen_count, batons, one_if, ended_while}
-use Rattle.band_condvar.specs.Condvar.{CondvarState, place_at, is_queued, with_waker, gone, with_spare}
-use Rattle.band_condvar.specs.Waits.{Stage, Enqueue, Registered, Reacquiring, Finished, Wait, Monitor, monitor, Test, Registers, Leaves, Reacquires, PollsPlace, PollsAt, Acquires, Answers, Asks, AsksInTurn, PollsWhileIf, PollsWhile, IsRoomier, JoinsMutex, has_turn, has_baton}
+use Rattle.band_condvar.specs.Condvar.{CondvarState, is_queued, with_waker, gone, with_room}
+use Rattle.band_condvar.specs.Waits.{Stage, Enqueue, Registered, Reacquiring, Finished, Wait, Monitor, monitor, Test, Registers, Leaves, PollsPlace, PollsAt, Acquires, Answers, Asks, AsksInTurn, PollsWhileIf, PollsWhile, IsRoomier, JoinsMutex, has_turn, has_baton}
 use Rattle.band_condvar.proofs.Batons.{joins, poll-keeps, acquires-keep, none-ended}
 
 -- a call at a `&mut`, by the values there
@@ -29,12 +28,12 @@ pub called-at : {F T : Type 0} (g : Mut F (MutBor T × Unit {0}) (Bool × (MutBo
 called-at g {f} {f'} {lent} {left} {r} called = record { shown = lent; shows = refl; left = left; called = called; leaves = refl }
 
 -- The room that was made shows in nothing else.
-module _ (of : ℕ) (waker : Waker) (old : CondvarState) (mutex : SemaphoreState) (spare : ℕ) where
+module _ (of : ℕ) (waker : Waker) (old : CondvarState) (mutex : SemaphoreState) (spare room : ℕ) where
   abbrev was : Monitor
   was = monitor old mutex
 
   abbrev made : Monitor
-  made = monitor (with_spare spare old) mutex
+  made = monitor (with_room spare room old) mutex
 
   by_leaving : (baton : Bool) (slot : ℕ) (answer : Poll Permit) (next : Stage) (new : Monitor) → Leaves baton slot of waker made (Ok answer) next new
       → (held : Monitor) × Leaves baton slot of waker was (Ok answer) next held × IsRoomier held new
@@ -122,11 +121,11 @@ polled Finished of waker old result next new may polls = polls
 -- more room, and more again
 more-room : (held had new : Monitor) → IsRoomier held had → IsRoomier had new → IsRoomier held new
 more-room held had new (room, mutex) (room', mutex') =
-    (room' ∙ ap (with_spare new.condvar.line.nodes.spare) room, mutex' ∙ mutex)
+    (room' ∙ ap (with_room new.condvar.line.nodes.spare new.condvar.room) room, mutex' ∙ mutex)
 
 -- room was made where that didn't fail
 pub made-room : (made : Result Unit AllocError) (failed : Bool) (old new : CondvarState) → failed ≡ is_err made → failed ≡ false
-    → OnOk made (new ≡ with_spare new.line.nodes.spare old) → new ≡ with_spare new.line.nodes.spare old
+    → OnOk made (new ≡ with_room new.line.nodes.spare new.room old) → new ≡ with_room new.line.nodes.spare new.room old
 made-room (Ok done) failed old new is not ok = ok
 made-room (Err error) failed old new is not ok = absurd (let never : true ≡ false = sym is ∙ not in cc)
 
@@ -138,11 +137,11 @@ registers_all_the_same guard waker held had next new (room, mutex) registers =
     (subst (λ (c : CondvarState). Registers guard waker (monitor c had.mutex) (Ok Pending) next new) room registers)
 
 module _ {F T : Type 0} (g : Mut F (MutBor T × Unit {0}) (Bool × (MutBor T × Unit {0}))) (wait : Wait) (waker : Waker) (old made : CondvarState) (mutex : SemaphoreState)
-    (may : has_turn wait.stage (monitor old mutex) ≡ true) (room : made ≡ with_spare made.line.nodes.spare old) where
+    (may : has_turn wait.stage (monitor old mutex) ≡ true) (room : made ≡ with_room made.line.nodes.spare made.room old) where
   in-room : (answer : Poll Permit) (next : Stage) (had : Monitor) → Acquires wait.stage wait.of waker (monitor made mutex) (Ok answer) next had
       → (held : Monitor) × Acquires wait.stage wait.of waker (monitor old mutex) (Ok answer) next held × IsRoomier held had
   in-room answer next had acquires =
-      roomier wait.of waker old mutex made.line.nodes.spare wait.stage answer next had
+      roomier wait.of waker old mutex made.line.nodes.spare made.room wait.stage answer next had
       (subst (λ (c : CondvarState). Acquires wait.stage wait.of waker (monitor c mutex) (Ok answer) next had) room acquires)
 
   asks : (result : Result (Poll Permit) PollError) (before after : Test F T) (next : Wait) (new : Monitor)
@@ -219,7 +218,7 @@ module _ {F T : Type 0} (g : Mut F (MutBor T × Unit {0}) (Bool × (MutBor T × 
   refused-unasked wait next waker before after old new error (polls, of) = by_may (has_turn wait.stage old) error polls
     where
       by_may : (b : Bool) (error : PollError) → PollsWhileIf g b wait.stage wait.of waker before old (Err error) after next.stage new → after ≡ before
-      by_may true errors.NoMemory (same, ends, room) = same
+      by_may true errors.NoMemory (none, same, ends, left) = same
       by_may true error polls = absurd polls
       by_may false error polled = polled.1
 
@@ -276,9 +275,9 @@ module _ {F T : Type 0} (g : Mut F (MutBor T × Unit {0}) (Bool × (MutBor T × 
           ap (λ s. batons s new.condvar + one_if (has_baton wait.stage old.condvar)) ends ∙ omega (arith, kept, count)
       by_may true is (Ok Pending) (guard, held, has, (answers, (ends, vacant, joined, given))) =
           let kept = acquires-keep wait.stage wait.of waker old (Ready guard) Finished held has in
-          let count = ap (λ (c : CondvarState). chosen_count c) joined ∙ joins waker new.condvar.line.nodes.spare held.condvar vacant in
+          let count = ap (λ (c : CondvarState). chosen_count c) joined ∙ joins waker new.condvar.line.nodes.spare new.condvar.room held.condvar vacant in
           ap (λ s. batons s new.condvar + ended_while (Ok Pending) (has_baton wait.stage old.condvar) s) ends ∙ omega (arith, kept, count)
-      by_may true is (Err errors.NoMemory) (same, ends, left) =
+      by_may true is (Err errors.NoMemory) (none, same, ends, left) =
           ap (λ s. batons s new.condvar + 0) ends ∙ ap (λ (m : Monitor). batons wait.stage m.condvar + 0) left ∙ omega arith
       by_may true is (Err error) polls = absurd polls
       by_may false is (Ok (Ready guard)) (polls, same) = poll-keeps wait.stage wait.of waker old (Ok (Ready guard)) next.stage new polls

@@ -2,22 +2,14 @@
 use Rattle.std.specs.Prelude.{◌≡◌, ℕ, ◌+◌, List, [], ◌∷◌, ◌++◌, flat_map, Bool, true, false, is_some, Option, Some, None}
 use Rattle.band_base.specs.declared.waker.Waker.{Waker}
 use Rattle.band_line.specs.Arena.{arena_map}
-use Rattle.band_line.specs.WaitList.{WaitListState, IsWaitList, empty_list, waiter_at, is_linked, first_waiter, pushed_back, with_list_room, with_waiter, detached, unlinked, removed_waiter}
+use Rattle.band_line.specs.WaitList.{WaitListState, IsWaitList, waiter_at, is_linked, first_waiter, pushed_back, with_list_room, with_waiter, detached, unlinked, removed_waiter}
+use Rattle.band_signal.specs.WaitQueue.{WaitQueue, place_at}
 use Rattle.band_condvar.specs.declared.place.Place.{Place}
 use Rattle.band_condvar.specs.declared.place.Place.TheVariants.{Queued, Chosen, Released}
 
--- the waits that are registered, each queued in line with its waker, chosen or released; and the wakers to wake, the
--- oldest first
-pub record CondvarState : Type 0 where
-  pub line : WaitListState Place
-  pub wakes : List ℕ
-
-abbrev pub new_condvar : CondvarState
-new_condvar = record { line = empty_list; wakes = [] }
-
--- what has become of the wait in a slot
-abbrev pub place_at : ℕ → CondvarState → Option Place
-place_at slot state = waiter_at slot state.line
+-- its waits, each queued in line with its waker, chosen or released
+abbrev pub CondvarState : Type 0
+CondvarState = WaitQueue Place
 
 abbrev pub is_queued : Option Place → Bool
 is_queued (Some (Queued waker)) = true
@@ -31,9 +23,13 @@ is_chosen (Some (Queued waker)) = false
 is_chosen (Some Released) = false
 is_chosen None = false
 
--- what holds between any two calls: exactly those in line are queued
+-- exactly those in line are queued
+abbrev pub AreQueued : WaitListState Place → Type 0
+AreQueued line = (slot : ℕ) → is_queued (waiter_at slot line) ≡ is_linked slot line
+
+-- what holds between any two calls
 pub record IsCondvar (state : CondvarState) : Type 0 where
-  pub queued : (slot : ℕ) → is_queued (place_at slot state) ≡ is_linked slot state.line
+  pub queued : AreQueued state.line
   pub list : IsWaitList state.line
 
 -- the waker of one that is queued
@@ -45,7 +41,7 @@ wakers_of None = []
 
 -- one in line leaves it for another place, which wakes it
 abbrev pub called : Place → ℕ → CondvarState → CondvarState
-called place slot state = record {
+called place slot state = record state {
   line = unlinked slot place state.line;
   wakes = state.wakes ++ wakers_of (place_at slot state);
 }
@@ -66,15 +62,16 @@ released Released = Released
 
 -- `notify_all`: all in line are released, in its order
 abbrev pub all_notified : CondvarState → CondvarState
-all_notified state = record {
+all_notified state = record state {
   line = record { nodes = arena_map released state.line.nodes; linked = [] };
   wakes = state.wakes ++ flat_map (λ slot. wakers_of (place_at slot state)) state.line.linked;
 }
 
 -- a wait goes to the end of the line. How much room there is after it is told
-abbrev pub joined : Waker → ℕ → CondvarState → CondvarState
-joined waker spare state = record state {
+abbrev pub joined : Waker → ℕ → ℕ → CondvarState → CondvarState
+joined waker spare room state = record state {
   line = pushed_back (Queued waker) (with_list_room (spare + 1) state.line);
+  room = room;
 }
 
 -- one in line leaves another waker
@@ -85,18 +82,23 @@ with_waker slot waker state = record state { line = with_waiter slot (Queued wak
 abbrev pub gone : ℕ → CondvarState → CondvarState
 gone slot state = record state { line = removed_waiter slot state.line }
 
+-- room for the wake of one that is queued
+abbrev pub room_of : Option Place → ℕ
+room_of (Some (Queued waker)) = 1
+room_of (Some Chosen) = 0
+room_of (Some Released) = 0
+room_of None = 0
+
 -- a wait is gone, from the line too
 abbrev pub without : ℕ → CondvarState → CondvarState
-without slot state = record state { line = removed_waiter slot (detached slot state.line) }
+without slot state = record state {
+  line = removed_waiter slot (detached slot state.line);
+  room = state.room + room_of (place_at slot state);
+}
 
 -- the same with other room
-abbrev pub with_spare : ℕ → CondvarState → CondvarState
-with_spare spare state = record state { line = with_list_room spare state.line }
-
--- the oldest waker to wake is taken, if there is one
-abbrev pub TakesWake : CondvarState → Option Waker → CondvarState → Type 0
-TakesWake old None new = (old.wakes ≡ []) × (new ≡ old)
-TakesWake old (Some waker) new = (old.wakes ≡ waker.0 ∷ new.wakes) × (new.line ≡ old.line)
+abbrev pub with_room : ℕ → ℕ → CondvarState → CondvarState
+with_room spare room state = record state { line = with_list_room spare state.line; room = room }
 
 -- what a slot has is there still, and who was called is where it was
 pub record StaysAt (slot : ℕ) (old new : CondvarState) : Type 0 where

@@ -1,5 +1,5 @@
 -- The waits for a condition variable: what their polls and their cancel make of it and of its mutex.
-use Rattle.std.specs.Prelude.{◌≡◌, ◌≢◌, ℕ, ◌+◌, ◌*◌, ◌≤◌, List, [], ◌==◌, ◌&&◌, Bool, true, false, not, if◌then◌else◌, IsTrue, Option, Some, None, IsSome, Result, Ok, Err}
+use Rattle.std.specs.Prelude.{◌≡◌, ℕ, ◌+◌, ◌*◌, ◌≤◌, List, [], ◌&&◌, Bool, true, false, not, if◌then◌else◌, IsTrue, Option, Some, None, IsSome, Result, Ok, Err}
 use Rattle.std.specs.Borrow.{MutBor}
 use Rattle.std.specs.Option.{option_map_or}
 use Rattle.std.specs.Fn.{Mut, Takes, CalledAtMut}
@@ -20,7 +20,11 @@ use Rattle.band_sem.specs.Semaphore.{SemaphoreState, IsLike, IsOwn, is_slot, is_
 use Rattle.band_sem.specs.Visits.{served}
 use Rattle.band_condvar.specs.declared.place.Place.{Place}
 use Rattle.band_condvar.specs.declared.place.Place.TheVariants.{Queued, Chosen, Released}
-use Rattle.band_condvar.specs.Condvar.{CondvarState, place_at, is_queued, is_chosen, wakers_of, one_notified, joined, with_waker, gone, without, with_spare, StaysAt}
+use Rattle.band_condvar.specs.Condvar.{CondvarState, is_queued, is_chosen, wakers_of, one_notified, joined, with_waker, gone, without, with_room, StaysAt}
+use Rattle.band_signal.specs.Waits as waits
+use Rattle.band_signal.specs.Waits.{Life, IsOther}
+use Rattle.band_signal.specs.WaitQueue as queue
+use Rattle.band_signal.specs.WaitQueue.{place_at, HasNoRoom, with_wake_room}
 
 -- a condition variable with its mutex
 pub record Monitor : Type 0 where
@@ -61,15 +65,21 @@ IsRegistered (Enqueue guard) condvar = Unit {0}
 IsRegistered (Reacquiring baton slot) condvar = Unit {0}
 IsRegistered Finished condvar = Unit {0}
 
--- a wait is registered in the next slot and gives its guard back, or there was no memory
+-- only for how many more wakes there is room is new
+abbrev pub with_wakes_of : Monitor → Monitor → Monitor
+with_wakes_of new old = record old { condvar = with_wake_room new.condvar.room old.condvar }
+
+-- a wait is registered in the next slot and gives its guard back, or there was no memory, which it needs only where there
+-- was no room
 abbrev pub Registers : Permit → Waker → Monitor → Result (Poll Permit) PollError → Stage → Monitor → Type 0
 Registers guard waker old (Ok Pending) stage new =
     (stage ≡ Registered (next_slot old.condvar.line.nodes))
     × (place_at (next_slot old.condvar.line.nodes) old.condvar ≡ None)
-    × (new.condvar ≡ joined waker new.condvar.line.nodes.spare old.condvar)
+    × (new.condvar ≡ joined waker new.condvar.line.nodes.spare new.condvar.room old.condvar)
     × IsLike (given_back 1 old.mutex) new.mutex
 Registers guard waker old (Ok (Ready given)) stage new = ⊥
-Registers guard waker old (Err errors.NoMemory) stage new = (stage ≡ Enqueue guard) × (new ≡ old)
+Registers guard waker old (Err errors.NoMemory) stage new =
+    HasNoRoom old.condvar × (stage ≡ Enqueue guard) × (new ≡ with_wakes_of new old)
 Registers guard waker old (Err error) stage new = ⊥
 
 -- one that was called asks for the mutex and leaves, or there was no memory to ask
@@ -128,6 +138,19 @@ PollsAt (Reacquiring baton slot) of waker old result stage new =
 PollsAt Finished of waker old result stage new =
     (result ≡ Err errors.Finished) × (stage ≡ Finished) × (new ≡ old)
 
+-- a guard that is given is of this mutex, and held there
+abbrev pub GivesGuard : Result (Poll Permit) PollError → SemaphoreState → Type 0
+GivesGuard (Ok (Ready guard)) mutex = (guard.of ≡ mutex.number) × (guard.count ≤ mutex.held)
+GivesGuard (Ok Pending) mutex = Unit {0}
+GivesGuard (Err error) mutex = Unit {0}
+
+-- a wait has the guard that it was made with
+abbrev pub has_guard : Stage → Bool
+has_guard (Enqueue guard) = true
+has_guard (Registered slot) = false
+has_guard (Reacquiring baton slot) = false
+has_guard Finished = false
+
 -- what a cancel leaves of the condition variable: the wait is gone, and one that had the baton hands it on to the first
 -- that is in line then
 abbrev pub uncalled : Stage → CondvarState → CondvarState
@@ -166,22 +189,21 @@ LeavesMutex (Enqueue guard) old new = Unit {0}
 LeavesMutex (Registered slot) old new = Unit {0}
 LeavesMutex Finished old new = Unit {0}
 
--- the slot of another wait
-abbrev pub IsOther : ℕ → Stage → Type 0
-IsOther other (Registered slot) = other ≢ slot
-IsOther other (Enqueue guard) = Unit {0}
-IsOther other (Reacquiring baton slot) = Unit {0}
-IsOther other Finished = Unit {0}
+-- what a wait has come to in the condition variable
+abbrev pub life_of : Stage → Life
+life_of (Enqueue guard) = waits.NotPolled
+life_of (Registered slot) = waits.Registered slot
+life_of (Reacquiring baton slot) = waits.Finished
+life_of Finished = waits.Finished
 
 -- each wait but this one is where it was
 abbrev pub LeavesOthers : Stage → CondvarState → CondvarState → Type 0
-LeavesOthers stage old new =
-    (other : ℕ) → IsOther other stage → IsSome (place_at other old) → place_at other new ≡ place_at other old
+LeavesOthers stage old new = queue.LeavesOthers (life_of stage) old new
 
 -- each wait but this one is there still, and who was called is where it was
 abbrev pub OthersStay : Stage → CondvarState → CondvarState → Type 0
 OthersStay stage old new =
-    (other : ℕ) → IsOther other stage → IsSome (place_at other old) → StaysAt other old new
+    (other : ℕ) → IsOther other (life_of stage) → IsSome (place_at other old) → StaysAt other old new
 
 -- a poll of a wait, which stays one for the same mutex
 abbrev pub Polls : Wait → Waker → Monitor → Result (Poll Permit) PollError → Wait → Monitor → Type 0
@@ -257,7 +279,7 @@ test condition value = record { condition = condition; value = value }
 -- nothing but how much room there is
 abbrev pub IsRoomier : Monitor → Monitor → Type 0
 IsRoomier old new =
-    (new.condvar ≡ with_spare new.condvar.line.nodes.spare old.condvar) × (new.mutex ≡ old.mutex)
+    (new.condvar ≡ with_room new.condvar.line.nodes.spare new.condvar.room old.condvar) × (new.mutex ≡ old.mutex)
 
 -- the condition may be asked about this value
 abbrev pub TakesAtMut :
@@ -278,8 +300,8 @@ module _ {F T : Type 0} (g : Mut F (MutBor T × Unit {0}) (Bool × (MutBor T × 
       Answers before true after × Registers guard waker old (Ok Pending) stage new
   Asks guard waker before old (Err error) after stage new = ⊥
 
-  -- A poll in its turn: it has the guard and asks the condition. Where there was no memory to wait again, the condition
-  -- was not asked.
+  -- A poll in its turn: it has the guard and asks the condition. Where there was no memory to wait again, which it needs
+  -- only where there was no room, the condition was not asked.
   abbrev pub AsksInTurn : Stage → ℕ → Waker → Test F T → Monitor → Result (Poll Permit) PollError
       → Test F T → Stage → Monitor → Type 0
   AsksInTurn stage of waker before old (Ok (Ready guard)) after next new =
@@ -292,7 +314,7 @@ module _ {F T : Type 0} (g : Mut F (MutBor T × Unit {0}) (Bool × (MutBor T × 
       × Acquires stage of waker old (Ok (Ready guard)) Finished held
       × Asks guard waker before held (Ok Pending) after next new
   AsksInTurn stage of waker before old (Err errors.NoMemory) after next new =
-      (after ≡ before) × (next ≡ stage) × (new ≡ old)
+      HasNoRoom old.condvar × (after ≡ before) × (next ≡ stage) × (new ≡ with_wakes_of new old)
   AsksInTurn stage of waker before old (Err error) after next new = ⊥
 
   -- by whose turn it is: each other is polled as a wait, which asks for no room but in the mutex's line

@@ -1,6 +1,7 @@
 //! The condition variable.
 ghost use Rattle.std.specs.Prelude.{◌≡◌, ◌*◌, length};
-ghost use Rattle.band_condvar.specs.Condvar.{new_condvar, IsCondvar, one_notified, all_notified, TakesWake, AllStay};
+ghost use Rattle.band_signal.specs.WaitQueue.{new_queue, TakesWake};
+ghost use Rattle.band_condvar.specs.Condvar.{IsCondvar, one_notified, all_notified, AllStay};
 ghost use Rattle.band_condvar.specs.Waits.{Enqueue};
 ghost use Rattle.band_line.specs.Visits.{Visits};
 
@@ -24,13 +25,13 @@ impl Model for Condvar {
 
     ghost Value = { CondvarState };
 
-    ghost view = { λ c. c.queue.state };
+    ghost view = { λ c. c.queue };
 }
 
 impl Condvar {
     /// Nobody waits.
     pub fn new(alloc: Global) -> Condvar
-        ensures state { result ≡ new_condvar }
+        ensures state { result ≡ new_queue }
         ensures sound { IsCondvar result }
     {
         let queue = Queue::new(alloc);

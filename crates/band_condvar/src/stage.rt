@@ -2,11 +2,12 @@
 ghost use Rattle.std.specs.Prelude.{◌≡◌, ◌+◌, ◌++◌, ◌≤◌, false, IsSome, IsErrOf, if◌then◌else◌};
 ghost use Rattle.band_balance.specs.Line.{is_served};
 ghost use Rattle.band_base.specs.declared.poll.Poll.TheVariants as poll;
-ghost use Rattle.band_condvar.specs.Condvar.{IsCondvar, place_at, is_queued, one_notified, AllStay};
+ghost use Rattle.band_signal.specs.WaitQueue.{place_at};
+ghost use Rattle.band_condvar.specs.Condvar.{IsCondvar, is_queued, one_notified, AllStay};
 ghost use Rattle.band_condvar.specs.declared.stage.Stage.TheVariants as stages;
 ghost use Rattle.band_condvar.specs.Kept.Queue.{HasRoom};
-ghost use Rattle.band_condvar.specs.Kept.Stage.{stage_of, slot_of, Fits, GivesGuardOf, AcquireVisits};
-ghost use Rattle.band_condvar.specs.Waits.{Enqueue, Registered, IsHere, woken_by, LeavesMutex, IsRegistered, monitor, Registers, Leaves, Reacquires, PollsAt, Acquires, LeavesOthers, OthersStay, LetsGo, cancelled, has_turn, PollVisits, CancelVisits, unlock_visits};
+ghost use Rattle.band_condvar.specs.Kept.Stage.{stage_of, slot_of, Fits, AcquireVisits};
+ghost use Rattle.band_condvar.specs.Waits.{Enqueue, Registered, IsHere, woken_by, LeavesMutex, IsRegistered, monitor, Registers, Leaves, Reacquires, PollsAt, Acquires, LeavesOthers, OthersStay, LetsGo, GivesGuard, has_guard, cancelled, has_turn, PollVisits, CancelVisits, unlock_visits};
 ghost use Rattle.band_line.specs.Visits.{Visits};
 ghost use Rattle.band_sem.specs.Request.{Joined};
 ghost use Rattle.band_sem.specs.Laws.{KeepsOrder};
@@ -50,17 +51,19 @@ impl Stage {
         steps: &mut Steps<L>,
     ) -> Polled
         requires fits { Fits m.old.number self }
-        requires here { IsHere (stage_of self) queue.old.state m.old }
-        ensures polls { PollsAt (stage_of self) m.old.number waker (monitor queue.old.state m.old)
-            result.answer (stage_of result.next) (monitor queue.new.state m.new) }
+        requires here { IsHere (stage_of self) queue.old m.old }
+        ensures polls { PollsAt (stage_of self) m.old.number waker (monitor queue.old m.old)
+            result.answer (stage_of result.next) (monitor queue.new m.new) }
         // Its mutex is never closed.
         ensures never_closed { IsErrOf result.answer PollError.Closed → ⊥ }
         ensures fits { Fits m.old.number result.next }
-        ensures here { IsHere (stage_of result.next) queue.new.state m.new }
-        ensures others { LeavesOthers (stage_of self) queue.old.state queue.new.state }
+        ensures guard { GivesGuard result.answer m.new }
+        ensures goes_on { result.answer ≡ Ok poll.Pending → has_guard (stage_of result.next) ≡ false }
+        ensures here { IsHere (stage_of result.next) queue.new m.new }
+        ensures others { LeavesOthers (stage_of self) queue.old queue.new }
         ensures number { m.new.number ≡ m.old.number }
         ensures order { KeepsOrder m.old.line m.new.line }
-        ensures sound { IsCondvar queue.new.state }
+        ensures sound { IsCondvar queue.new }
         ensures lawful { IsLawful m.new }
         ensures whole { IsWhole 1 m.new }
         ensures visits { PollVisits (stage_of self) m.old m.new steps.old steps.new }
@@ -80,18 +83,19 @@ impl Stage {
         steps: &mut Steps<L>,
     ) -> Polled
         requires fits { Fits m.old.number self }
-        requires here { IsHere (stage_of self) queue.old.state m.old }
-        ensures acquires { Acquires (stage_of self) m.old.number waker (monitor queue.old.state m.old)
-            result.answer (stage_of result.next) (monitor queue.new.state m.new) }
+        requires here { IsHere (stage_of self) queue.old m.old }
+        ensures acquires { Acquires (stage_of self) m.old.number waker (monitor queue.old m.old)
+            result.answer (stage_of result.next) (monitor queue.new m.new) }
         ensures never_closed { IsErrOf result.answer PollError.Closed → ⊥ }
         ensures fits { Fits m.old.number result.next }
-        ensures guard { GivesGuardOf m.new.number result.answer }
-        ensures here { IsHere (stage_of result.next) queue.new.state m.new }
-        ensures others { LeavesOthers (stage_of self) queue.old.state queue.new.state }
+        ensures guard { GivesGuard result.answer m.new }
+        ensures goes_on { result.answer ≡ Ok poll.Pending → has_guard (stage_of result.next) ≡ false }
+        ensures here { IsHere (stage_of result.next) queue.new m.new }
+        ensures others { LeavesOthers (stage_of self) queue.old queue.new }
         ensures room { HasRoom queue.old → HasRoom queue.new }
         ensures number { m.new.number ≡ m.old.number }
         ensures order { KeepsOrder m.old.line m.new.line }
-        ensures sound { IsCondvar queue.new.state }
+        ensures sound { IsCondvar queue.new }
         ensures lawful { IsLawful m.new }
         ensures whole { IsWhole 1 m.new }
         ensures visits { AcquireVisits (stage_of self) steps.old steps.new }
@@ -129,8 +133,8 @@ impl Stage {
         steps: &mut Steps<L>,
     ) -> bool
         requires fits { Fits m.now.number self.now }
-        requires here { IsHere (stage_of self.now) queue.old.state m.now }
-        ensures turn { result ≡ has_turn (stage_of self.now) (monitor queue.old.state m.now) }
+        requires here { IsHere (stage_of self.now) queue.old m.now }
+        ensures turn { result ≡ has_turn (stage_of self.now) (monitor queue.old m.now) }
         ensures same { queue.new ≡ queue.old }
         ensures visits { Visits 0 1 steps.old steps.new }
     {
@@ -150,16 +154,16 @@ impl Stage {
         steps: &mut Steps<L>,
     )
         requires fits { Fits m.old.number self }
-        requires here { IsHere (stage_of self) queue.old.state m.old }
-        ensures state { queue.new.state ≡ cancelled (stage_of self) queue.old.state }
+        requires here { IsHere (stage_of self) queue.old m.old }
+        ensures state { queue.new ≡ cancelled (stage_of self) queue.old }
         ensures lets_go { LetsGo (stage_of self) m.old m.new }
-        ensures wakes { queue.new.state.wakes
-            ≡ queue.old.state.wakes ++ woken_by (stage_of self) queue.old.state }
+        ensures wakes { queue.new.wakes
+            ≡ queue.old.wakes ++ woken_by (stage_of self) queue.old }
         ensures leaves { LeavesMutex (stage_of self) m.old m.new }
-        ensures others { OthersStay (stage_of self) queue.old.state queue.new.state }
+        ensures others { OthersStay (stage_of self) queue.old queue.new }
         ensures number { m.new.number ≡ m.old.number }
         ensures order { KeepsOrder m.old.line m.new.line }
-        ensures sound { IsCondvar queue.new.state }
+        ensures sound { IsCondvar queue.new }
         ensures lawful { IsLawful m.new }
         ensures whole { IsWhole 1 m.new }
         ensures visits { CancelVisits (stage_of self) m.old m.new steps.old steps.new }
@@ -230,13 +234,13 @@ pub(crate) fn register<L: Ledger>(
     requires number { guard.of ≡ m.old.number }
     requires held { guard.count ≤ m.old.held }
     requires room { HasRoom queue.old }
-    ensures registers { Registers guard waker (monitor queue.old.state m.old)
-        (Ok poll.Pending) (Registered result) (monitor queue.new.state m.new) }
-    ensures here { IsSome (place_at result queue.new.state) }
-    ensures others { LeavesOthers (Enqueue guard) queue.old.state queue.new.state }
+    ensures registers { Registers guard waker (monitor queue.old m.old)
+        (Ok poll.Pending) (Registered result) (monitor queue.new m.new) }
+    ensures here { IsSome (place_at result queue.new) }
+    ensures others { LeavesOthers (Enqueue guard) queue.old queue.new }
     ensures number { m.new.number ≡ m.old.number }
     ensures order { KeepsOrder m.old.line m.new.line }
-    ensures sound { IsCondvar queue.new.state }
+    ensures sound { IsCondvar queue.new }
     ensures lawful { IsLawful m.new }
     ensures whole { IsWhole 1 m.new }
     ensures visits { Visits 0 (unlock_visits m.old m.new + 2) steps.old steps.new }
@@ -256,15 +260,17 @@ fn enqueue<L: Ledger>(
 ) -> Polled
     requires number { guard.of ≡ m.old.number }
     requires held { guard.count ≤ m.old.held }
-    ensures registers { Registers guard waker (monitor queue.old.state m.old)
-        result.answer (stage_of result.next) (monitor queue.new.state m.new) }
+    ensures registers { Registers guard waker (monitor queue.old m.old)
+        result.answer (stage_of result.next) (monitor queue.new m.new) }
     ensures never_closed { IsErrOf result.answer PollError.Closed → ⊥ }
     ensures fits { Fits m.old.number result.next }
-    ensures here { IsHere (stage_of result.next) queue.new.state m.new }
-    ensures others { LeavesOthers (Enqueue guard) queue.old.state queue.new.state }
+    ensures guard { GivesGuard result.answer m.new }
+    ensures goes_on { result.answer ≡ Ok poll.Pending → has_guard (stage_of result.next) ≡ false }
+    ensures here { IsHere (stage_of result.next) queue.new m.new }
+    ensures others { LeavesOthers (Enqueue guard) queue.old queue.new }
     ensures number { m.new.number ≡ m.old.number }
     ensures order { KeepsOrder m.old.line m.new.line }
-    ensures sound { IsCondvar queue.new.state }
+    ensures sound { IsCondvar queue.new }
     ensures lawful { IsLawful m.new }
     ensures whole { IsWhole 1 m.new }
     ensures visits { Visits 0 (unlock_visits m.old m.new + 2) steps.old steps.new }
@@ -292,19 +298,20 @@ fn leave<L: Ledger>(
     waker: Waker,
     steps: &mut Steps<L>,
 ) -> Polled
-    requires here { IsSome (place_at id queue.old.state) }
-    requires called { is_queued (place_at id queue.old.state) ≡ false }
-    ensures leaves { Leaves has_baton id m.old.number waker (monitor queue.old.state m.old)
-        result.answer (stage_of result.next) (monitor queue.new.state m.new) }
+    requires here { IsSome (place_at id queue.old) }
+    requires called { is_queued (place_at id queue.old) ≡ false }
+    ensures leaves { Leaves has_baton id m.old.number waker (monitor queue.old m.old)
+        result.answer (stage_of result.next) (monitor queue.new m.new) }
     ensures never_closed { IsErrOf result.answer PollError.Closed → ⊥ }
     ensures fits { Fits m.old.number result.next }
-    ensures guard { GivesGuardOf m.new.number result.answer }
-    ensures here { IsHere (stage_of result.next) queue.new.state m.new }
-    ensures others { LeavesOthers (Registered id) queue.old.state queue.new.state }
+    ensures guard { GivesGuard result.answer m.new }
+    ensures goes_on { result.answer ≡ Ok poll.Pending → has_guard (stage_of result.next) ≡ false }
+    ensures here { IsHere (stage_of result.next) queue.new m.new }
+    ensures others { LeavesOthers (Registered id) queue.old queue.new }
     ensures room { HasRoom queue.old → HasRoom queue.new }
     ensures number { m.new.number ≡ m.old.number }
     ensures order { KeepsOrder m.old.line m.new.line }
-    ensures sound { IsCondvar queue.new.state }
+    ensures sound { IsCondvar queue.new }
     ensures lawful { IsLawful m.new }
     ensures whole { IsWhole 1 m.new }
     ensures visits { Visits 0 3 steps.old steps.new }
@@ -346,14 +353,15 @@ fn reacquire<L: Ledger>(
     requires fits { Fits m.old.number (stages.Reacquiring request has_baton) }
     requires own { IsOwn (Joined (slot_of request.stage)) 1 m.old }
     ensures reacquires { Reacquires has_baton (slot_of request.stage) m.old.number waker
-        (monitor queue.now.state m.old) result.answer (stage_of result.next) (monitor queue.now.state m.new) }
+        (monitor queue.now m.old) result.answer (stage_of result.next) (monitor queue.now m.new) }
     ensures never_closed { IsErrOf result.answer PollError.Closed → ⊥ }
     ensures fits { Fits m.old.number result.next }
-    ensures guard { GivesGuardOf m.new.number result.answer }
-    ensures here { IsHere (stage_of result.next) queue.now.state m.new }
+    ensures guard { GivesGuard result.answer m.new }
+    ensures goes_on { result.answer ≡ Ok poll.Pending → has_guard (stage_of result.next) ≡ false }
+    ensures here { IsHere (stage_of result.next) queue.now m.new }
     ensures number { m.new.number ≡ m.old.number }
     ensures order { KeepsOrder m.old.line m.new.line }
-    ensures sound { IsCondvar queue.now.state }
+    ensures sound { IsCondvar queue.now }
     ensures lawful { IsLawful m.new }
     ensures whole { IsWhole 1 m.new }
     ensures visits { Visits 1 2 steps.old steps.new }
@@ -377,9 +385,9 @@ fn reacquire<L: Ledger>(
 
 /// Hands a baton on to the first in line, if there is one.
 fn hand_on<L: Ledger>(has_baton: bool, queue: &mut Queue, steps: &mut Steps<L>)
-    ensures state { queue.new.state ≡ (if has_baton then one_notified queue.old.state else queue.old.state) }
-    ensures stay { AllStay queue.old.state queue.new.state }
-    ensures sound { IsCondvar queue.new.state }
+    ensures state { queue.new ≡ (if has_baton then one_notified queue.old else queue.old) }
+    ensures stay { AllStay queue.old queue.new }
+    ensures sound { IsCondvar queue.new }
     ensures visits { Visits 0 (if has_baton then 3 else 0) steps.old steps.new }
 {
     if has_baton {
@@ -398,7 +406,7 @@ fn is_free(m: &MutexState) -> bool
 
 /// Does nothing: a caller that changes nothing learns what holds.
 pub(crate) fn touch(queue: &Queue, m: &MutexState)
-    ensures sound { IsCondvar queue.now.state }
+    ensures sound { IsCondvar queue.now }
     ensures order { KeepsOrder m.now.line m.now.line }
     ensures lawful { IsLawful m.now }
     ensures whole { IsWhole 1 m.now }

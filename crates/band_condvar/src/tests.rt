@@ -150,6 +150,40 @@ fn it_stands_in_the_mutexs_line<L: Ledger, R: Abort>(rt: &R, alloc: Global, step
     guard.lose();
 }
 
+/// One that was released stands in the mutex's line, is granted the mutex there, and then asks its condition.
+fn it_is_granted_in_the_mutexs_line<L: Ledger, R: Abort>(
+    rt: &R,
+    alloc: Global,
+    steps: &mut Steps<L>,
+) {
+    let mut mutex = MutexState::new(alloc, 5);
+    let mut condvar = Condvar::new(alloc);
+    let mut value = 0u64;
+    let guard = locked(rt, &mut mutex);
+    let mut wait = condvar.wait_while(guard, |value: &mut u64| *value == 0);
+    pending(
+        rt,
+        wait.poll(&mut condvar, &mut mutex, &mut value, Waker(1), steps),
+    );
+    let guard = locked(rt, &mut mutex);
+    value = 1;
+    condvar.notify_all(steps);
+    assert_eq!(rt; number(condvar.take_wake()), 1);
+    pending(
+        rt,
+        wait.poll(&mut condvar, &mut mutex, &mut value, Waker(2), steps),
+    );
+    mutex.drop_guard(guard, steps);
+    assert_eq!(rt; number(mutex.take_wake()), 2);
+    let guard = ready(
+        rt,
+        wait.poll(&mut condvar, &mut mutex, &mut value, Waker(3), steps),
+    );
+    mutex.drop_guard(guard, steps);
+    assert_eq!(rt; mutex.semaphore().available_permits(), 1);
+    wait.lose();
+}
+
 fn each_life<L: Ledger, R: Abort>(rt: &R, alloc: Global, blank: Blank)
     requires name { blank.name ≡ L.name }
     requires parts { blank.parts ≡ L.parts }
@@ -160,6 +194,7 @@ fn each_life<L: Ledger, R: Abort>(rt: &R, alloc: Global, blank: Blank)
     the_baton_goes_along(rt, alloc, &mut steps);
     it_waits_while(rt, alloc, &mut steps);
     it_stands_in_the_mutexs_line(rt, alloc, &mut steps);
+    it_is_granted_in_the_mutexs_line(rt, alloc, &mut steps);
 }
 
 #[test]

@@ -1,10 +1,10 @@
 //! A wait for a condition variable.
-ghost use Rattle.std.specs.Prelude.{◌≡◌, ◌+◌, ◌++◌, ◌≤◌, IsErrOf};
+ghost use Rattle.std.specs.Prelude.{◌≡◌, ◌+◌, ◌++◌, ◌≤◌, false, IsErrOf};
 ghost use Rattle.band_base.specs.declared.poll.Poll.TheVariants as poll;
 ghost use Rattle.band_condvar.specs.Condvar.{IsCondvar};
 ghost use Rattle.band_condvar.specs.Kept.Queue.{HasRoom};
-ghost use Rattle.band_condvar.specs.Kept.Stage.{GivesGuardOf, AcquireVisits};
-ghost use Rattle.band_condvar.specs.Waits.{Enqueue, Finished, IsHere, woken_by, LeavesMutex, IsRegistered, has_turn, monitor, Registers, Acquires, Polls, LeavesOthers, OthersStay, LetsGo, cancelled, PollVisits, CancelVisits, unlock_visits};
+ghost use Rattle.band_condvar.specs.Kept.Stage.{AcquireVisits};
+ghost use Rattle.band_condvar.specs.Waits.{Enqueue, Finished, IsHere, woken_by, LeavesMutex, IsRegistered, has_turn, monitor, Registers, Acquires, Polls, LeavesOthers, OthersStay, LetsGo, GivesGuard, has_guard, cancelled, PollVisits, CancelVisits, unlock_visits};
 ghost use Rattle.band_sem.specs.Laws.{KeepsOrder};
 ghost use Rattle.band_line.specs.Visits.{Visits};
 ghost use Rattle.band_sem.specs.Semaphore.{IsLawful};
@@ -68,6 +68,8 @@ impl CondWait {
         ensures polls { Polls self.old waker (monitor cv.old m.old) result self.new (monitor cv.new m.new) }
         // Its mutex is never closed.
         ensures never_closed { IsErrOf result PollError.Closed → ⊥ }
+        ensures guard { GivesGuard result m.new }
+        ensures goes_on { result ≡ Ok poll.Pending → has_guard self.new.stage ≡ false }
         ensures here { IsHere self.new.stage cv.new m.new }
         ensures others { LeavesOthers self.old.stage cv.old cv.new }
         ensures number { m.new.number ≡ m.old.number }
@@ -91,8 +93,8 @@ impl CondWait {
         steps: &mut Steps<L>,
     ) -> bool
         requires number { self.now.of ≡ m.now.number }
-        requires here { IsHere self.now.stage queue.old.state m.now }
-        ensures turn { result ≡ has_turn self.now.stage (monitor queue.old.state m.now) }
+        requires here { IsHere self.now.stage queue.old m.now }
+        ensures turn { result ≡ has_turn self.now.stage (monitor queue.old m.now) }
         ensures same { queue.new ≡ queue.old }
         ensures visits { Visits 0 1 steps.old steps.new }
     {
@@ -108,18 +110,18 @@ impl CondWait {
         steps: &mut Steps<L>,
     ) -> Result<Poll<LockGuard>, PollError>
         requires number { self.old.of ≡ m.old.number }
-        requires here { IsHere self.old.stage queue.old.state m.old }
+        requires here { IsHere self.old.stage queue.old m.old }
         ensures of { self.new.of ≡ self.old.of }
-        ensures acquires { Acquires self.old.stage self.old.of waker (monitor queue.old.state m.old)
-            result self.new.stage (monitor queue.new.state m.new) }
+        ensures acquires { Acquires self.old.stage self.old.of waker (monitor queue.old m.old)
+            result self.new.stage (monitor queue.new m.new) }
         ensures never_closed { IsErrOf result PollError.Closed → ⊥ }
-        ensures guard { GivesGuardOf m.new.number result }
-        ensures here { IsHere self.new.stage queue.new.state m.new }
-        ensures others { LeavesOthers self.old.stage queue.old.state queue.new.state }
+        ensures guard { GivesGuard result m.new }
+        ensures here { IsHere self.new.stage queue.new m.new }
+        ensures others { LeavesOthers self.old.stage queue.old queue.new }
         ensures room { HasRoom queue.old → HasRoom queue.new }
         ensures number { m.new.number ≡ m.old.number }
         ensures order { KeepsOrder m.old.line m.new.line }
-        ensures sound { IsCondvar queue.new.state }
+        ensures sound { IsCondvar queue.new }
         ensures lawful { IsLawful m.new }
         ensures whole { IsWhole 1 m.new }
         ensures visits { AcquireVisits self.old.stage steps.old steps.new }
@@ -144,13 +146,13 @@ impl CondWait {
         requires held { guard.count ≤ m.old.held }
         requires room { HasRoom queue.old }
         ensures of { self.new.of ≡ self.old.of }
-        ensures registers { Registers guard waker (monitor queue.old.state m.old)
-            (Ok poll.Pending) self.new.stage (monitor queue.new.state m.new) }
-        ensures here { IsHere self.new.stage queue.new.state m.new }
-        ensures others { LeavesOthers (Enqueue guard) queue.old.state queue.new.state }
+        ensures registers { Registers guard waker (monitor queue.old m.old)
+            (Ok poll.Pending) self.new.stage (monitor queue.new m.new) }
+        ensures here { IsHere self.new.stage queue.new m.new }
+        ensures others { LeavesOthers (Enqueue guard) queue.old queue.new }
         ensures number { m.new.number ≡ m.old.number }
         ensures order { KeepsOrder m.old.line m.new.line }
-        ensures sound { IsCondvar queue.new.state }
+        ensures sound { IsCondvar queue.new }
         ensures lawful { IsLawful m.new }
         ensures whole { IsWhole 1 m.new }
         ensures visits { Visits 0 (unlock_visits m.old m.new + 2) steps.old steps.new }

@@ -1,8 +1,9 @@
 //! A wait for as long as a condition answers true.
-ghost use Rattle.std.specs.Prelude.{◌≡◌, ◌+◌, ◌++◌, ◌≤◌, IsTrue, IsErrOf};
+ghost use Rattle.std.specs.Prelude.{◌≡◌, ◌+◌, ◌++◌, ◌≤◌, false, IsTrue, IsErrOf};
+ghost use Rattle.band_base.specs.declared.poll.Poll.TheVariants as poll;
 ghost use Rattle.band_condvar.specs.Condvar.{IsCondvar};
 ghost use Rattle.band_condvar.specs.Kept.Queue.{HasRoom};
-ghost use Rattle.band_condvar.specs.Waits.{Enqueue, Finished, IsHere, woken_by, LeavesMutex, has_turn, monitor, test, Answers, Asks, PollsWhile, LeavesOthers, OthersStay, LetsGo, cancelled, TakesAtMut, WhileVisits, CancelVisits, unlock_visits};
+ghost use Rattle.band_condvar.specs.Waits.{Enqueue, Finished, IsHere, woken_by, LeavesMutex, has_turn, monitor, test, Answers, Asks, PollsWhile, LeavesOthers, OthersStay, LetsGo, GivesGuard, has_guard, cancelled, TakesAtMut, WhileVisits, CancelVisits, unlock_visits};
 ghost use Rattle.band_sem.specs.Laws.{KeepsOrder};
 ghost use Rattle.band_line.specs.Visits.{Visits};
 ghost use Rattle.band_sem.specs.Semaphore.{IsLawful};
@@ -65,6 +66,8 @@ impl<F> CondWaitWhile<F> {
             (monitor cv.new m.new) }
         // Its mutex is never closed.
         ensures never_closed { IsErrOf result PollError.Closed → ⊥ }
+        ensures guard { GivesGuard result m.new }
+        ensures goes_on { result ≡ Ok poll.Pending → has_guard self.new.wait.stage ≡ false }
         ensures here { IsHere self.new.wait.stage cv.new m.new }
         ensures others { LeavesOthers self.old.wait.stage cv.old cv.new }
         ensures number { m.new.number ≡ m.old.number }
@@ -118,12 +121,14 @@ impl<F> CondWaitWhile<F> {
         requires callable { TakesAtMut F.FnMut self.old.condition value.old }
         ensures of { self.new.wait.of ≡ self.old.wait.of }
         ensures asks { Asks F.FnMut guard waker (test self.old.condition value.old)
-            (monitor queue.old.state m.old) (Ok result) (test self.new.condition value.new)
-            self.new.wait.stage (monitor queue.new.state m.new) }
-        ensures here { IsHere self.new.wait.stage queue.new.state m.new }
-        ensures others { LeavesOthers (Enqueue guard) queue.old.state queue.new.state }
+            (monitor queue.old m.old) (Ok result) (test self.new.condition value.new)
+            self.new.wait.stage (monitor queue.new m.new) }
+        ensures guard { GivesGuard (Ok result) m.new }
+        ensures goes_on { result ≡ poll.Pending → has_guard self.new.wait.stage ≡ false }
+        ensures here { IsHere self.new.wait.stage queue.new m.new }
+        ensures others { LeavesOthers (Enqueue guard) queue.old queue.new }
         ensures number { m.new.number ≡ m.old.number }
-        ensures sound { IsCondvar queue.new.state }
+        ensures sound { IsCondvar queue.new }
         ensures lawful { IsLawful m.new }
         ensures whole { IsWhole 1 m.new }
         ensures visits { Visits 0 (unlock_visits m.old m.new + 2) steps.old steps.new }

@@ -1,5 +1,5 @@
 -- What the calls of a queue keep.
-use Rattle.std.proofs.Common.{◌≡◌, ◌≢◌, refl, ℕ, suc, ◌+◌, ◌-◌, List, [], ◌∷◌, ◌++◌, append_assoc, append-nil, length, map, drop, get_or, arith, ap, sym, ◌∙◌, subst, Option, Some, None, is_some, Bool, true, false}
+use Rattle.std.proofs.Common.{◌≡◌, ◌≢◌, refl, ℕ, suc, ◌-◌, List, [], ◌∷◌, ◌++◌, append_assoc, append-nil, length, map, drop, get_or, arith, ap, sym, ◌∙◌, subst, Option, Some, None, is_some, Bool, true, false}
 use Rattle.std.specs.Prelude.{◌==◌, flat_map, Result, Ok}
 use Rattle.std.specs.Option.{option_map}
 use Rattle.std.proofs.Math.Seq.{map-set_same}
@@ -12,8 +12,9 @@ use Rattle.band_line.specs.Arena.{KeepsOthers, arena_map}
 use Rattle.band_line.specs.WaitList.{WaitListState, IsWaitList, IsUnlinked, waiter_at, is_linked, first_waiter, unlinked, removed_waiter}
 use Rattle.band_event.specs.declared.place.Place.{Place}
 use Rattle.band_event.specs.declared.place.Place.TheVariants.{Queued, Called}
-use Rattle.band_event.specs.Event.{QueueState, EventState, IsEvent, IsQueue, place_at, is_queued, is_called, wakers_of, all_called, Polls, LaterPoll}
+use Rattle.band_event.specs.Event.{QueueState, EventState, IsEvent, IsQueue, AreQueued, is_queued, is_called, wakers_of, all_called, Polls, LaterPoll}
 use Rattle.band_signal.specs.Waits.{Life, Registered}
+use Rattle.band_signal.specs.WaitQueue.{place_at}
 use Rattle.band_event.specs.Kept.Queue.{IsKept}
 use Rattle.band_line.proofs.Leaving.{first-split}
 
@@ -21,8 +22,8 @@ use Rattle.band_line.proofs.Leaving.{first-split}
 by_slot : (line : WaitListState Place) (slot : ℕ)
     → is_queued (waiter_at slot line) ≡ is_linked slot line
     → ((other : ℕ) → other ≢ slot → is_queued (waiter_at other line) ≡ is_linked other line)
-    → (wakes : List ℕ) → IsQueue (record { line = line; wakes = wakes })
-by_slot line slot here others wakes other = by_test (other == slot) refl
+    → AreQueued line
+by_slot line slot here others other = by_test (other == slot) refl
   where
     by_test : (b : Bool) → (other == slot) ≡ b → is_queued (waiter_at other line) ≡ is_linked other line
     by_test true e =
@@ -48,22 +49,20 @@ stay-called old line slot place here unlinked other = by_test (other == slot) re
         let kept = unlinked.others other differs in
         (ap is_some kept, λ was. ap is_called kept ∙ was)
 
-pub queued-gone : (old : QueueState) (line after : WaitListState Place) (slot : ℕ) → IsQueue old → IsUnlinked slot Called old.line line
-    → after ≡ removed_waiter slot line → waiter_at slot after ≡ None → KeepsOthers slot line.nodes after.nodes
-    → (wakes : List ℕ) → IsQueue (record { line = after; wakes = wakes })
-queued-gone old line after slot queued unlinked is vacant others wakes =
+pub queued-gone : (old line after : WaitListState Place) (slot : ℕ) → AreQueued old → IsUnlinked slot Called old line
+    → after ≡ removed_waiter slot line → waiter_at slot after ≡ None → KeepsOthers slot line.nodes after.nodes → AreQueued after
+queued-gone old line after slot queued unlinked is vacant others =
     let links : after.linked ≡ line.linked = ap (λ l. l.linked) is in
     by_slot after slot
     (ap is_queued vacant ∙ sym unlinked.detached.not_linked ∙ ap (λ ids. is_linked slot (record line { linked = ids })) (sym links))
     (λ other differs. ap is_queued (others other differs ∙ unlinked.others other differs) ∙ queued other
     ∙ sym (unlinked.linked other differs) ∙ ap (λ ids. is_linked other (record line { linked = ids })) (sym links))
-    wakes
 
 -- a first one that is called leaves the others to be called
 pub all-called : (old : QueueState) (line : WaitListState Place) (slot : ℕ) (waker : Waker)
     → IsWaitList old.line → first_waiter old.line ≡ Some slot → waiter_at slot old.line ≡ Some (Queued waker)
     → IsUnlinked slot Called old.line line
-    → all_called (record { line = line; wakes = old.wakes ++ waker.0 ∷ [] }) ≡ all_called old
+    → all_called (record { line = line; wakes = old.wakes ++ waker.0 ∷ []; room = old.room }) ≡ all_called old
 all-called old line slot waker sound first here unlinked =
     let nodes : arena_map (λ (place : Place). Called) line.nodes ≡ arena_map (λ place. Called) old.line.nodes =
     ap (λ l. arena_map (λ (place : Place). Called) l.nodes) unlinked.state
@@ -77,19 +76,19 @@ all-called old line slot waker sound first here unlinked =
     ap (λ ids. (old.wakes ++ waker.0 ∷ []) ++ flat_map now ids) (unlinked.first first)
     ∙ append_assoc old.wakes (waker.0 ∷ []) (flat_map now (drop 1 old.line.linked))
     ∙ ap (λ ws. old.wakes ++ ws) (ap (λ ws. ws ++ flat_map now (drop 1 old.line.linked)) (sym woken) ∙ split) in
-    ap (λ n. record { line = record { nodes = n; linked = [] }; wakes = (old.wakes ++ waker.0 ∷ []) ++ flat_map now line.linked }) nodes
-    ∙ ap (λ ws. record { line = record { nodes = arena_map (λ place. Called) old.line.nodes; linked = [] }; wakes = ws }) wakes
+    ap (λ n. record old { line = record { nodes = n; linked = [] }; wakes = (old.wakes ++ waker.0 ∷ []) ++ flat_map now line.linked }) nodes
+    ∙ ap (λ ws. record old { line = record { nodes = arena_map (λ place. Called) old.line.nodes; linked = [] }; wakes = ws }) wakes
 
 -- with nobody in line all are called
 pub nobody-queued : (queue : QueueState) → IsQueue queue → queue.line.linked ≡ [] → all_called queue ≡ queue
 nobody-queued queue queued none =
     let slots = at queue.line.nodes.slots (λ slot. queued slot ∙ ap (λ ids. is_linked slot (record queue.line { linked = ids })) none) in
-    ap (λ ids. record {
+    ap (λ ids. record queue {
       line = record { nodes = arena_map (λ place. Called) queue.line.nodes; linked = [] };
       wakes = queue.wakes ++ flat_map (λ slot. wakers_of (place_at slot queue)) ids;
     }) none
-    ∙ ap (λ s. record { line = record { nodes = record queue.line.nodes { slots = s }; linked = [] }; wakes = queue.wakes ++ [] }) slots
-    ∙ ap (λ ids. record { line = record { nodes = queue.line.nodes; linked = ids }; wakes = queue.wakes ++ [] }) (sym none)
+    ∙ ap (λ s. record queue { line = record { nodes = record queue.line.nodes { slots = s }; linked = [] }; wakes = queue.wakes ++ [] }) slots
+    ∙ ap (λ ids. record queue { line = record { nodes = queue.line.nodes; linked = ids }; wakes = queue.wakes ++ [] }) (sym none)
     ∙ ap (λ ws. record queue { wakes = ws }) (append-nil queue.wakes)
   where
     same : (slot : Option Place) → is_queued slot ≡ false → option_map (λ place. Called) slot ≡ slot
@@ -105,34 +104,34 @@ nobody-queued queue queued none =
         ∙ ap (λ ys. x ∷ ys) (at xs (λ slot. none (suc slot)))
 
 -- one that was queued is counted no more, once it is gone
-pub kept-queued : (old : QueueState) (line after : WaitListState Place) (slot waiting spare : ℕ) (waker : Waker)
-    → IsKept old waiting spare → IsUnlinked slot Called old.line line → waiter_at slot old.line ≡ Some (Queued waker)
+pub kept-queued : (old line after : WaitListState Place) (slot waiting spare : ℕ) (waker : Waker)
+    → IsKept old waiting spare → IsUnlinked slot Called old line → waiter_at slot old ≡ Some (Queued waker)
     → after ≡ removed_waiter slot line → waiter_at slot after ≡ None → KeepsOthers slot line.nodes after.nodes
-    → IsKept (record { line = after; wakes = old.wakes }) (waiting - 1) spare
+    → IsKept after (waiting - 1) spare
 kept-queued old line after slot waiting spare waker kept unlinked here is vacant others =
-    let linked : is_linked slot old.line ≡ true = sym (kept.queued slot) ∙ ap is_queued here in
+    let linked : is_linked slot old ≡ true = sym (kept.queued slot) ∙ ap is_queued here in
     let fewer = unlinked.fewer linked in
     let count = ap (λ l. length l.linked) is in
     let counted = kept.counted in
     let room = kept.room in
     record {
-      queued = queued-gone old line after slot kept.queued unlinked is vacant others old.wakes;
+      queued = queued-gone old line after slot kept.queued unlinked is vacant others;
       counted = omega arith;
       room = omega arith;
     }
 
 -- one that was called was not counted
-pub kept-called : (old : QueueState) (line after : WaitListState Place) (slot waiting spare : ℕ)
-    → IsKept old waiting spare → IsUnlinked slot Called old.line line → waiter_at slot old.line ≡ Some Called
+pub kept-called : (old line after : WaitListState Place) (slot waiting spare : ℕ)
+    → IsKept old waiting spare → IsUnlinked slot Called old line → waiter_at slot old ≡ Some Called
     → after ≡ removed_waiter slot line → waiter_at slot after ≡ None → KeepsOthers slot line.nodes after.nodes
-    → IsKept (record { line = after; wakes = old.wakes }) waiting spare
+    → IsKept after waiting spare
 kept-called old line after slot waiting spare kept unlinked here is vacant others =
-    let out : is_linked slot old.line ≡ false = sym (kept.queued slot) ∙ ap is_queued here in
+    let out : is_linked slot old ≡ false = sym (kept.queued slot) ∙ ap is_queued here in
     let count = ap (λ l. length l.linked) is ∙ ap length (unlinked.already out) in
     let counted = kept.counted in
     let room = kept.room in
     record {
-      queued = queued-gone old line after slot kept.queued unlinked is vacant others old.wakes;
+      queued = queued-gone old line after slot kept.queued unlinked is vacant others;
       counted = omega arith;
       room = room;
     }

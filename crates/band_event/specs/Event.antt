@@ -6,30 +6,23 @@ use Rattle.band_base.specs.declared.poll.PollError.{PollError}
 use Rattle.band_base.specs.declared.poll.PollError.TheVariants as errors
 use Rattle.band_base.specs.declared.waker.Waker.{Waker}
 use Rattle.band_line.specs.Arena.{arena_map, next_slot}
-use Rattle.band_line.specs.WaitList.{WaitListState, empty_list, waiter_at, is_linked, first_waiter, pushed_back, with_list_room, with_waiter, detached, unlinked, removed_waiter}
+use Rattle.band_line.specs.WaitList.{WaitListState, waiter_at, is_linked, first_waiter, pushed_back, with_list_room, with_waiter, detached, unlinked, removed_waiter}
 use Rattle.band_line.specs.Visits.{Visits}
 use Rattle.band_signal.specs.Waits.{Life, NotPolled, Registered, Finished, IsOther}
+use Rattle.band_signal.specs.WaitQueue.{WaitQueue, new_queue, place_at, HasNoRoom, with_wake_room}
 use Rattle.band_event.specs.declared.place.Place.{Place}
 use Rattle.band_event.specs.declared.place.Place.TheVariants.{Queued, Called}
 
--- the waits that are registered, each queued in line with its waker or called, and the wakers to wake, the oldest first
-pub record QueueState : Type 0 where
-  pub line : WaitListState Place
-  pub wakes : List ℕ
+-- its waits, each queued in line with its waker or called
+abbrev pub QueueState : Type 0
+QueueState = WaitQueue Place
 
 pub record EventState : Type 0 where
   pub is_set : Bool
   pub queue : QueueState
 
-abbrev pub new_queue : QueueState
-new_queue = record { line = empty_list; wakes = [] }
-
 abbrev pub new_event : Bool → EventState
 new_event is_set = record { is_set = is_set; queue = new_queue }
-
--- what has become of the wait in a slot
-abbrev pub place_at : ℕ → QueueState → Option Place
-place_at slot queue = waiter_at slot queue.line
 
 abbrev pub is_queued : Option Place → Bool
 is_queued (Some (Queued waker)) = true
@@ -37,8 +30,11 @@ is_queued (Some Called) = false
 is_queued None = false
 
 -- exactly those in line are queued
+abbrev pub AreQueued : WaitListState Place → Type 0
+AreQueued line = (slot : ℕ) → is_queued (waiter_at slot line) ≡ is_linked slot line
+
 abbrev pub IsQueue : QueueState → Type 0
-IsQueue queue = (slot : ℕ) → is_queued (place_at slot queue) ≡ is_linked slot queue.line
+IsQueue queue = AreQueued queue.line
 
 -- what holds of every event: one that is set has nobody in line
 pub record IsEvent (event : EventState) : Type 0 where
@@ -53,21 +49,30 @@ wakers_of None = []
 
 -- one in line is called, which wakes it
 abbrev pub called : ℕ → QueueState → QueueState
-called slot queue = record {
+called slot queue = record queue {
   line = unlinked slot Called queue.line;
   wakes = queue.wakes ++ wakers_of (place_at slot queue);
 }
 
 -- all in line are called, in its order
 abbrev pub all_called : QueueState → QueueState
-all_called queue = record {
+all_called queue = record queue {
   line = record { nodes = arena_map (λ place. Called) queue.line.nodes; linked = [] };
   wakes = queue.wakes ++ flat_map (λ slot. wakers_of (place_at slot queue)) queue.line.linked;
 }
 
+-- room for the wake of one that is queued
+abbrev pub room_of : Option Place → ℕ
+room_of (Some (Queued waker)) = 1
+room_of (Some Called) = 0
+room_of None = 0
+
 -- a wait is gone, from the line too
 abbrev pub without : ℕ → QueueState → QueueState
-without slot queue = record queue { line = removed_waiter slot (detached slot queue.line) }
+without slot queue = record queue {
+  line = removed_waiter slot (detached slot queue.line);
+  room = queue.room + room_of (place_at slot queue);
+}
 
 -- a signal calls the first in line, or else it is stored
 abbrev pub signalled_at : Option ℕ → EventState → EventState
@@ -87,16 +92,19 @@ IsHere (Registered slot) queue = IsSome (place_at slot queue)
 IsHere NotPolled queue = Unit {0}
 IsHere Finished queue = Unit {0}
 
--- a wait joins the line, or there was no memory
+-- a wait joins the line, or there was no memory, which it needs only where there was no room. How much room there is after
+-- it is told
 abbrev pub Joins : Waker → QueueState → Result (Poll Unit) PollError → Life → QueueState → Type 0
 Joins waker old (Ok Pending) life new =
     (life ≡ Registered (next_slot old.line.nodes))
     × (place_at (next_slot old.line.nodes) old ≡ None)
     × (new ≡ record old {
       line = pushed_back (Queued waker) (with_list_room (new.line.nodes.spare + 1) old.line);
+      room = new.room;
     })
 Joins waker old (Ok (Ready output)) life new = ⊥
-Joins waker old (Err errors.NoMemory) life new = (life ≡ NotPolled) × (new ≡ old)
+Joins waker old (Err errors.NoMemory) life new =
+    HasNoRoom old × (life ≡ NotPolled) × (new ≡ with_wake_room new.room old)
 Joins waker old (Err error) life new = ⊥
 
 -- a later poll: one that was called leaves, and one that is queued leaves its new waker
@@ -161,21 +169,11 @@ cancelled_auto life event =
     let gone : EventState = record event { queue = cancelled life event.queue } in
     if was_called life event.queue then signalled gone else gone
 
--- the oldest waker to wake is taken, if there is one
-abbrev pub TakesWake : QueueState → Option Waker → QueueState → Type 0
-TakesWake old None new = (old.wakes ≡ []) × (new ≡ old)
-TakesWake old (Some waker) new = (old.wakes ≡ waker.0 ∷ new.wakes) × (new.line ≡ old.line)
-
 -- nobody leaves, in line or called, and who was called stays so
 abbrev pub StayHere : QueueState → QueueState → Type 0
 StayHere old new = (slot : ℕ)
     → (is_some (place_at slot new) ≡ is_some (place_at slot old))
     × (is_called (place_at slot old) ≡ true → is_called (place_at slot new) ≡ true)
-
--- each wait but this one is there still, as it was
-abbrev pub LeavesOthers : Life → QueueState → QueueState → Type 0
-LeavesOthers life old new =
-    (other : ℕ) → IsOther other life → IsSome (place_at other old) → place_at other new ≡ place_at other old
 
 -- each wait but this one is there still, and who was called stays so
 abbrev pub OthersStay : Life → QueueState → QueueState → Type 0

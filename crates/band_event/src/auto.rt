@@ -1,8 +1,9 @@
 //! The auto-reset event.
 ghost use Rattle.std.specs.Prelude.{◌≡◌, false};
-ghost use Rattle.band_event.specs.Event.{new_event, IsEvent, IsHere, PollsAuto, LeavesOthers, OthersStay, signalled, cancelled_auto, StayHere, TakesWake, PollVisits, CancelVisits};
+ghost use Rattle.band_event.specs.Event.{new_event, IsEvent, IsHere, PollsAuto, OthersStay, signalled, cancelled_auto, StayHere, PollVisits, CancelVisits};
 ghost use Rattle.band_line.specs.Visits.{Visits};
 ghost use Rattle.band_signal.specs.Waits.{NotPolled, Finished};
+ghost use Rattle.band_signal.specs.WaitQueue.{LeavesOthers, TakesWake};
 
 use crate::queue::Queue;
 use crate::wait::EventWait;

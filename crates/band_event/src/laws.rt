@@ -5,8 +5,9 @@ ghost use Rattle.band_base.specs.declared.poll.Poll.TheVariants.{Ready};
 ghost use Rattle.band_base.specs.declared.poll.PollError.{PollError as TheError};
 ghost use Rattle.band_base.specs.declared.waker.Waker.{Waker as TheWaker};
 ghost use Rattle.band_event.specs.declared.place.Place.TheVariants.{Called};
-ghost use Rattle.band_event.specs.Event.{EventState, IsEvent, is_queued, place_at, PollsAuto, PollsManual};
+ghost use Rattle.band_event.specs.Event.{EventState, IsEvent, is_queued, PollsAuto, PollsManual};
 ghost use Rattle.band_signal.specs.Waits.{Life, Registered};
+ghost use Rattle.band_signal.specs.WaitQueue.{place_at};
 
 /// An event that is set, or has stored a signal, has nobody in line, and a wait that is queued belongs to one that is not.
 /// The clause `sound` of each call says that an event is so.

@@ -1,8 +1,9 @@
 //! The manual-reset event.
 ghost use Rattle.std.specs.Prelude.{◌≡◌, ◌*◌, length, false};
-ghost use Rattle.band_event.specs.Event.{new_event, IsEvent, IsHere, PollsManual, LeavesOthers, set_for_all, cancelled, StayHere, TakesWake, PollVisits, CancelVisits};
+ghost use Rattle.band_event.specs.Event.{new_event, IsEvent, IsHere, PollsManual, set_for_all, cancelled, StayHere, PollVisits, CancelVisits};
 ghost use Rattle.band_line.specs.Visits.{Visits};
 ghost use Rattle.band_signal.specs.Waits.{NotPolled, Finished};
+ghost use Rattle.band_signal.specs.WaitQueue.{LeavesOthers, TakesWake};
 
 use crate::queue::Queue;
 use crate::wait::EventWait;

@@ -1,9 +1,10 @@
 //! Who waits for an event, in line or called.
-ghost use Rattle.std.specs.Prelude.{◌≡◌, ◌+◌, ◌*◌, ◌≤◌, length, [], false, Some, IsSome, IfOk, IsTrue, MatchBool, MatchResult, if◌then◌else◌};
+ghost use Rattle.std.specs.Prelude.{◌≡◌, ◌+◌, ◌*◌, ◌<◌, ◌≤◌, length, [], false, Some, IsSome, IfOk, OnOk, OnErr, IsTrue, MatchBool, MatchResult, if◌then◌else◌};
 ghost use Rattle.band_line.specs.Arena.{KeepsOthers};
 ghost use Rattle.band_line.specs.Visits.{Visits};
 ghost use Rattle.band_line.specs.WaitList.{waiter_at, is_linked, first_waiter, IsUnlinked, IsWaitList};
-ghost use Rattle.band_event.specs.Event.{IsQueue, new_queue, place_at, called, all_called, without, is_called, StayHere, TakesWake};
+ghost use Rattle.band_event.specs.Event.{IsQueue, called, all_called, without, is_called, StayHere};
+ghost use Rattle.band_signal.specs.WaitQueue.{new_queue, place_at, with_wake_room, TakesWake};
 ghost use Rattle.band_event.specs.Kept.Queue.{CallsFirst, JoinsQueue, PollsPlace};
 
 use crate::place::Place;
@@ -24,14 +25,18 @@ pub(crate) struct Queue {
 
 impl Model for Queue {
     ghost use Rattle.band_event.specs.Event.{QueueState};
+    ghost use Rattle.std.specs.Prelude.{◌-◌};
     ghost use Rattle.band_event.specs.Kept.Queue.{IsKept};
 
     ghost Value = { QueueState };
 
-    ghost view = { λ q. record { line = q.list; wakes = q.wakes.wakers } };
+    ghost view = { λ q. record {
+      line = q.list;
+      wakes = q.wakes.wakers;
+      room = q.wakes.spare - q.waiting;
+    } };
 
-    ghost invariant = { λ q.
-        IsKept (record { line = q.list; wakes = q.wakes.wakers }) q.waiting q.wakes.spare };
+    ghost invariant = { λ q. IsKept q.list q.waiting q.wakes.spare };
 }
 
 impl Queue {
@@ -86,6 +91,23 @@ impl Queue {
         while self.call_first(steps) {}
     }
 
+    /// Makes room for the wake of one more.
+    fn reserve_wake(&mut self) -> Result<(), AllocError>
+        ensures room { OnOk result (0 < self.new.room) }
+        ensures fits { OnOk result (length self.new.line.linked < u64.MAX) }
+        ensures none { OnErr result (self.old.room ≡ 0) }
+        ensures state { self.new ≡ with_wake_room self.new.room self.old }
+        ensures queued { IsQueue self.new }
+    {
+        if self.waiting < self.wakes.spare() {
+            return Ok(());
+        }
+        match self.waiting.checked_add(1) {
+            Some(wanted) => self.wakes.reserve(wanted),
+            None => Err(AllocError),
+        }
+    }
+
     /// Puts a wait at the end of the line.
     pub(crate) fn join<L: Ledger>(
         &mut self,
@@ -100,10 +122,7 @@ impl Queue {
             (λ _. Visits 1 2 steps.old steps.new)
             (λ _. steps.new ≡ steps.old) }
     {
-        match self.waiting.checked_add(1) {
-            Some(wanted) => self.wakes.reserve(wanted)?,
-            None => return Err(AllocError),
-        }
+        self.reserve_wake()?;
         self.list.reserve(1)?;
         self.waiting += 1;
         Ok(self.list.push_back(Place::Queued(waker), steps))

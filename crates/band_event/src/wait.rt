@@ -1,7 +1,8 @@
 //! A wait's life.
 ghost use Rattle.std.specs.Prelude.{◌≡◌, ◌↔◌, IsTrue, if◌then◌else◌};
 ghost use Rattle.band_signal.specs.Waits.{NotPolled, Finished};
-ghost use Rattle.band_event.specs.Event.{IsQueue, IsHere, PollsQueue, LeavesOthers, cancelled, was_called, PollVisits, CancelVisits};
+ghost use Rattle.band_signal.specs.WaitQueue.{LeavesOthers};
+ghost use Rattle.band_event.specs.Event.{IsQueue, IsHere, PollsQueue, cancelled, was_called, PollVisits, CancelVisits};
 
 use crate::queue::Queue;
 use band_base::{Poll, PollError, Steps, Waker};

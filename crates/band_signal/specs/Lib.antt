@@ -5,4 +5,5 @@ pub mod Group
 pub mod Kept
 pub mod Laws
 pub mod Shutdown
+pub mod WaitQueue
 pub mod Waits

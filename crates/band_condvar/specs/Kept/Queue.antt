@@ -3,25 +3,20 @@ use Rattle.std.specs.Prelude.{◌≡◌, ℕ, ◌+◌, ◌^◌, ◌≤◌, ◌<�
 use Rattle.band_base.specs.declared.waker.Waker.{Waker}
 use Rattle.band_condvar.specs.declared.place.Place.{Place}
 use Rattle.band_condvar.specs.declared.place.Place.TheVariants.{Queued, Chosen, Released}
-use Rattle.band_condvar.specs.Condvar.{CondvarState, place_at, is_queued, called, with_waker}
-use Rattle.band_line.specs.WaitList.{is_linked}
-
--- what it shows, and for how many more wakes there is room
-pub record QueueState : Type 0 where
-  pub state : CondvarState
-  pub room : ℕ
+use Rattle.band_condvar.specs.Condvar.{CondvarState, AreQueued, called, with_waker}
+use Rattle.band_line.specs.WaitList.{WaitListState}
 
 -- exactly those in line are queued and counted, and there is room for the wake of each
-pub record IsKept (state : CondvarState) (waiting room : ℕ) : Type 0 where
-  pub queued : (slot : ℕ) → is_queued (place_at slot state) ≡ is_linked slot state.line
-  pub counted : waiting ≡ length state.line.linked
-  pub fits : waiting ≤ room
+pub record IsKept (line : WaitListState Place) (waiting spare : ℕ) : Type 0 where
+  pub queued : AreQueued line
+  pub counted : waiting ≡ length line.linked
+  pub fits : waiting ≤ spare
 
 -- there is room for one more wait, and for its wake
-pub record HasRoom (queue : QueueState) : Type 0 where
-  pub node : 0 < queue.state.line.nodes.spare
-  pub wake : length queue.state.line.linked < queue.room
-  pub number : length queue.state.line.linked + 1 < 2 ^ 64
+pub record HasRoom (state : CondvarState) : Type 0 where
+  pub node : 0 < state.line.nodes.spare
+  pub wake : 0 < state.room
+  pub number : length state.line.linked + 1 < 2 ^ 64
 
 -- the first in line is called, if there is one
 abbrev pub CallsFirst : Option ℕ → Place → CondvarState → Bool → CondvarState → Type 0

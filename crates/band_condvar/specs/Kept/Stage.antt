@@ -1,10 +1,6 @@
 -- What the code keeps of a wait, and what it stands for.
-use Rattle.std.specs.Prelude.{◌≡◌, ℕ, Result, Ok, Err}
-use Rattle.band_base.specs.declared.poll.Poll.{Poll}
-use Rattle.band_base.specs.declared.poll.Poll.TheVariants.{Ready, Pending}
-use Rattle.band_base.specs.declared.poll.PollError.{PollError}
+use Rattle.std.specs.Prelude.{◌≡◌, ℕ}
 use Rattle.band_line.specs.Visits.{Visits}
-use Rattle.band_sem.specs.Permit.{Permit}
 use Rattle.band_sem.specs.Request.{Stage as Asked, NotPolled, Joined, Finished as Ended}
 use Rattle.band_condvar.specs.declared.stage.Stage.{Stage as Kept}
 use Rattle.band_condvar.specs.declared.stage.Stage.TheVariants as kept
@@ -29,12 +25,6 @@ Fits of (kept.Registered id) = Unit {0}
 Fits of (kept.Reacquiring request has_baton) =
     request ≡ record { of = of; size = 1; stage = Joined (slot_of request.stage) }
 Fits of kept.Finished = Unit {0}
-
--- a guard that is given is of the mutex with this number
-abbrev pub GivesGuardOf : ℕ → Result (Poll Permit) PollError → Type 0
-GivesGuardOf of (Ok (Ready guard)) = guard.of ≡ of
-GivesGuardOf of (Ok Pending) = Unit {0}
-GivesGuardOf of (Err error) = Unit {0}
 
 -- how many waits are visited to have the guard
 abbrev pub AcquireVisits : Stage → ℕ → ℕ → Type 0

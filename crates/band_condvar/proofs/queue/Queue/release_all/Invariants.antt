@@ -4,11 +4,11 @@ use Rattle.band_condvar.proofs.queue.Queue.release_all.Given as goal
 
 abbrev pub invariant-loop : goal.invariant-loop
 invariant-loop g l = record {
-  all : all_notified l.self.state ≡ all_notified l.fn.self.state;
-  stay : AllStay l.fn.self.state l.self.state;
+  all : all_notified l.self ≡ all_notified l.fn.self;
+  stay : AllStay l.fn.self l.self;
   no_fewer : l.fn.steps ≤ l.steps;
-  no_more : l.steps + 3 * length l.self.state.line.linked ≤ l.fn.steps + 3 * length l.fn.self.state.line.linked;
+  no_more : l.steps + 3 * length l.self.line.linked ≤ l.fn.steps + 3 * length l.fn.self.line.linked;
 }
 
 abbrev pub decreases-loop : goal.decreases-loop
-decreases-loop g l = length l.self.state.line.linked
+decreases-loop g l = length l.self.line.linked

@@ -1,6 +1,7 @@
 use Rattle.std.proofs.Common.{is_some, ap, sym, ◌∙◌, subst}
 use Rattle.band_signal.specs.Waits.{IsOther}
-use Rattle.band_event.specs.Event.{place_at, is_called}
+use Rattle.band_event.specs.Event.{is_called}
+use Rattle.band_signal.specs.WaitQueue.{place_at}
 use Rattle.band_event.proofs.auto.AutoWait.cancel.Goals as goal
 
 pub returns-then-cancel-clause-others : goal.returns-then-cancel-clause-others
