@@ -1,0 +1,4 @@
+pub mod Kept
+pub mod Manager
+pub mod Status
+pub mod Store
