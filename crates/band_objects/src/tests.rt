@@ -14,21 +14,26 @@ fn three(alloc: Global) -> Result<PoolState<u64>, CountedError> {
     Ok(pool)
 }
 
+fn next(pool: &mut PoolState<u64>, strategy: QueueStrategy) -> Option<u64> {
+    pool.pop(strategy).map(|object| object.o)
+}
+
 #[test]
 fn objects_come_and_go(rt: HostRuntime) -> Result<(), Fail> {
     let mut pool = three(rt.alloc())?;
-    let oldest = pool.pop(QueueStrategy::default()).unwrap();
-    assert_eq!(rt; oldest.o, 1);
-    assert_eq!(rt; pool.pop(QueueStrategy::Lifo).unwrap().o, 3);
-    assert_eq!(rt; pool.idle_count(), 1);
-    assert_eq!(rt; pool.current_size(), 3);
-    pool.return_idle(oldest);
-    pool.detach();
-    assert_eq!(rt; pool.current_size(), 2);
-    for wanted in [2, 1] {
-        assert_eq!(rt; pool.pop(QueueStrategy::Fifo).unwrap().o, wanted);
+    if let Some(oldest) = pool.pop(QueueStrategy::default()) {
+        assert_eq!(rt; oldest.o, 1);
+        assert!(rt; pool.current_size() == 3 && pool.idle_count() == 2);
+        pool.return_idle(oldest);
     }
-    assert!(rt; pool.pop(QueueStrategy::Lifo).is_none());
+    if let Some(newest) = pool.pop(QueueStrategy::Lifo) {
+        assert_eq!(rt; newest.o, 1);
+        pool.detach();
+    }
+    assert!(rt; pool.current_size() == 2 && pool.idle_count() == 2);
+    assert_eq!(rt; next(&mut pool, QueueStrategy::Fifo), Some(2));
+    assert_eq!(rt; next(&mut pool, QueueStrategy::Lifo), Some(3));
+    assert_eq!(rt; next(&mut pool, QueueStrategy::Lifo), None);
     pool.reserve_for(2)?;
     pool.add_active();
     assert_eq!(rt; pool.current_size(), 3);
@@ -41,7 +46,7 @@ fn odd_ones_are_retained(rt: HostRuntime) -> Result<(), Fail> {
     let sorted = pool.retain(|object: &mut u64, _status| *object % 2 == 1)?;
     assert_eq!(rt; sorted.retained, 2);
     assert!(rt; sorted.removed.as_slice() == [2].as_slice());
-    assert_eq!(rt; pool.pop(QueueStrategy::Fifo).unwrap().o, 1);
+    assert_eq!(rt; next(&mut pool, QueueStrategy::Fifo), Some(1));
     Ok(())
 }
 
